@@ -1,16 +1,16 @@
 // The slots that a basket takes. `l` is the layout.
 ghost use Rattle.std.specs.Prelude.{◌≡◌, ◌+◌, ◌*◌, ◌≤◌, ◌<◌, length};
 ghost use Rattle.words.specs.Word.{word};
-ghost use Rattle.prelude.specs.Filter.{anyIn};
-ghost use Rattle.layout.specs.Record.{Layout, keyWith};
-ghost use Rattle.layout.specs.Content.{contentsOf};
+ghost use Rattle.prelude.specs.Filter.{any_in};
+ghost use Rattle.layout.specs.Record.{Layout, key_with};
+ghost use Rattle.layout.specs.Content.{contents_of};
 ghost use Rattle.layout.specs.inner.Inside.{SlotInside};
-ghost use Rattle.table.specs.Takeable.{older, takeableIf};
-ghost use Rattle.index.specs.Allocation.{allocateFrom};
-ghost use Rattle.allocation.specs.Allocation.{allocationByRule, allocationChosen, mayTakeBelow, allocationBy, allocationChosenBy};
-ghost use Rattle.allocation.specs.inner.Walk.{takeFault};
-ghost use Rattle.allocation.specs.inner.Takeable.{olderThan, Walkable};
-ghost use Rattle.allocation.specs.inner.Choice.{KnownTop, Decided, chosen_of, ChosenInside, Meetable, metBelow, Met, Chosen};
+ghost use Rattle.table.specs.Takeable.{older, takeable_if};
+ghost use Rattle.index.specs.Allocation.{allocate_from};
+ghost use Rattle.allocation.specs.Allocation.{allocation_by_rule, allocation_chosen, may_take_below, allocation_by, allocation_chosen_by};
+ghost use Rattle.allocation.specs.inner.Walk.{take_fault};
+ghost use Rattle.allocation.specs.inner.Takeable.{older_than, Walkable};
+ghost use Rattle.allocation.specs.inner.Choice.{KnownTop, Decided, chosen_of, ChosenInside, Meetable, met_below, Met, Chosen};
 
 use crate::slot::{highest_valid, is_older, may_take, valid_version};
 use crate::take::{end_fault, named_version, newest_version, slots_told};
@@ -50,7 +50,7 @@ fn is_older_chosen(
     version: u64,
 ) -> bool
     requires { Layout l × ChosenInside image.now slots got }
-    ensures { result ≡ anyIn (olderThan (contentsOf l image.now) (keyWith low high) version) (chosen_of slots got) }
+    ensures { result ≡ any_in (older_than (contents_of l image.now) (key_with low high) version) (chosen_of slots got) }
 {
     let mut j = got;
     while 0 < j {
@@ -75,7 +75,7 @@ fn may_take_after(
     s: usize,
 ) -> bool
     requires { SlotInside image.now l s × (128 * (n + 1) ≤ length image.now) × ChosenInside image.now slots got }
-    ensures { result ≡ takeableIf top (anyIn (older (contentsOf l image.now) s) (chosen_of slots got)) (contentsOf l image.now s) }
+    ensures { result ≡ takeable_if top (any_in (older (contents_of l image.now) s) (chosen_of slots got)) (contents_of l image.now s) }
 {
     if may_take(image, l, n, top, false, s) {
         return true;
@@ -92,7 +92,7 @@ fn may_take_after(
 // The slot is taken or passed over, by the version that p has.
 fn meet_below(image: &[u8], l: usize, next: &[u32], n: usize, p: Progress) -> Progress
     requires { Walkable image.now next.now l n × Meetable n p }
-    ensures { result ≡ metBelow l image.now next.now p }
+    ensures { result ≡ met_below l image.now next.now p }
 {
     let slot = p.at as usize;
     let link = next[slot];
@@ -174,8 +174,8 @@ pub fn choose_below(
     top: u64,
 ) -> Choice
     requires { Walkable image.now next.now l n × (0 < wanted) × (wanted ≤ 8) }
-    ensures result { Chosen (allocateFrom (mayTakeBelow l image.now top) next.now n first wanted)
-        (allocateFrom (mayTakeBelow l image.now top) next.now n first wanted) wanted result }
+    ensures result { Chosen (allocate_from (may_take_below l image.now top) next.now n first wanted)
+        (allocate_from (may_take_below l image.now top) next.now n first wanted) wanted result }
 {
     let mut p = Progress {
         at: first,
@@ -224,9 +224,9 @@ fn choose_unrefused(
     exact: bool,
 ) -> Choice
     requires { Walkable image.now next.now l n × (0 < wanted) × (wanted ≤ 8) × KnownTop (word image.now) n top exact ×
-        (takeFault (allocationByRule l image.now next.now n first wanted) ≡ 0) }
-    ensures { Chosen (allocationByRule l image.now next.now n first wanted)
-        (allocationChosen l image.now next.now n first wanted) wanted result }
+        (take_fault (allocation_by_rule l image.now next.now n first wanted) ≡ 0) }
+    ensures { Chosen (allocation_by_rule l image.now next.now n first wanted)
+        (allocation_chosen l image.now next.now n first wanted) wanted result }
 {
     let mut p = Progress {
         at: first,
@@ -262,8 +262,8 @@ fn choose(
     wanted: usize,
 ) -> Choice
     requires { Walkable image.now next.now l n × (0 < wanted) × (wanted ≤ 8) }
-    ensures { Chosen (allocationByRule l image.now next.now n first wanted)
-        (allocationChosen l image.now next.now n first wanted) wanted result }
+    ensures { Chosen (allocation_by_rule l image.now next.now n first wanted)
+        (allocation_chosen l image.now next.now n first wanted) wanted result }
 {
     let known = newest_version(image, n, newest);
     let told = slots_told(image, l, next, n, first, wanted, known, true);
@@ -285,8 +285,8 @@ pub fn choose_by(
     wanted: usize,
 ) -> Choice
     requires { Walkable image.now next.now l n × (0 < wanted) × (wanted ≤ 8) }
-    ensures result { Chosen (allocationBy own l image.now next.now n first newest wanted)
-        (allocationChosenBy own l image.now next.now n first newest wanted) wanted result }
+    ensures result { Chosen (allocation_by own l image.now next.now n first newest wanted)
+        (allocation_chosen_by own l image.now next.now n first newest wanted) wanted result }
 {
     if own {
         let top = named_version(image, n, newest);

@@ -2,11 +2,11 @@
 // left? `l` is the layout.
 ghost use Rattle.std.specs.Prelude.{◌≡◌, true, false, ◌&&◌, ◌+◌, ◌*◌, ◌≤◌, ltb, length};
 ghost use Rattle.words.specs.Word.{word};
-ghost use Rattle.prelude.specs.Filter.{anyIn};
+ghost use Rattle.prelude.specs.Filter.{any_in};
 ghost use Rattle.layout.specs.Record.{Layout};
-ghost use Rattle.layout.specs.Content.{contentsOf};
+ghost use Rattle.layout.specs.Content.{contents_of};
 ghost use Rattle.layout.specs.inner.Inside.{SlotInside};
-ghost use Rattle.allocation.specs.inner.Takeable.{slotVersion, olderLeft};
+ghost use Rattle.allocation.specs.inner.Takeable.{slot_version, older_left};
 ghost use Rattle.allocation.specs.inner.Choice.{chosen_of, ChosenInside, Marked, ClearAt, Clear};
 
 use crate::slot::{is_older, valid_version};
@@ -15,7 +15,7 @@ use layout_fields_code::fields::{slot_high, slot_kind, slot_low};
 // Is slot s a remove record while slot t has an older valid record of its key?
 fn is_older_left(image: &[u8], l: usize, s: usize, t: usize) -> bool
     requires { SlotInside image.now l s × SlotInside image.now l t }
-    ensures { result ≡ olderLeft (contentsOf l image.now) s t }
+    ensures { result ≡ older_left (contents_of l image.now) s t }
 {
     if slot_kind(image, l, s) != 2 {
         return false;
@@ -29,7 +29,7 @@ fn is_older_left(image: &[u8], l: usize, s: usize, t: usize) -> bool
 // Is one of the first `got` slots?
 fn is_older_left_in(image: &[u8], l: usize, slots: [u32; 8], got: usize, t: usize) -> bool
     requires { SlotInside image.now l t × ChosenInside image.now slots got }
-    ensures { result ≡ anyIn (λ s. olderLeft (contentsOf l image.now) s t) (chosen_of slots got) }
+    ensures { result ≡ any_in (λ s. older_left (contents_of l image.now) s t) (chosen_of slots got) }
 {
     let mut j = got;
     while 0 < j {
@@ -61,7 +61,7 @@ fn key_marks(image: &[u8], slots: [u32; 8], got: usize) -> [u8; 4096]
 // Is the version of slot t above the one that is known? Tested only where strict says so.
 fn is_version_above(image: &[u8], t: usize, known: u64, strict: bool) -> bool
     requires { 128 * (t + 1) ≤ length image.now }
-    ensures { result ≡ strict && ltb known (slotVersion (word image.now) t) }
+    ensures { result ≡ strict && ltb known (slot_version (word image.now) t) }
 {
     if strict {
         return known < valid_version(image, t);

@@ -2,10 +2,10 @@
 ghost use Rattle.std.specs.Prelude.{◌≡◌, ◌+◌, ◌*◌, ◌≤◌, length};
 ghost use Rattle.words.specs.Word.{word};
 ghost use Rattle.prelude.specs.Range.{any_of, greatest};
-ghost use Rattle.layout.specs.Record.{Layout, keyWith};
-ghost use Rattle.layout.specs.Content.{contentsOf};
+ghost use Rattle.layout.specs.Record.{Layout, key_with};
+ghost use Rattle.layout.specs.Content.{contents_of};
 ghost use Rattle.layout.specs.inner.Inside.{SlotInside};
-ghost use Rattle.allocation.specs.inner.Takeable.{slotVersion, olderThan, lowPut, takeable};
+ghost use Rattle.allocation.specs.inner.Takeable.{slot_version, older_than, low_put, takeable};
 
 use layout::Verdict;
 use layout_fields_code::fields::{has_key, slot_high, slot_kind, slot_low};
@@ -15,7 +15,7 @@ use words_code::{greater, read_word};
 // The version of slot s where it is valid, else 0.
 pub fn valid_version(image: &[u8], s: usize) -> u64
     requires { 128 * (s + 1) ≤ length image.now }
-    ensures result { result ≡ slotVersion (word image.now) s }
+    ensures result { result ≡ slot_version (word image.now) s }
 {
     match slot_verdict(image, s) {
         Verdict::Valid(version) => version,
@@ -27,7 +27,7 @@ pub fn valid_version(image: &[u8], s: usize) -> u64
 // The highest version of the valid slots 1 to n, 0 if there is none.
 pub fn highest_valid(image: &[u8], n: usize) -> u64
     requires { 128 * (n + 1) ≤ length image.now }
-    ensures result { result ≡ greatest (slotVersion (word image.now)) n }
+    ensures result { result ≡ greatest (slot_version (word image.now)) n }
 {
     let mut top: u64 = 0;
     let mut s = 0;
@@ -41,7 +41,7 @@ pub fn highest_valid(image: &[u8], n: usize) -> u64
 // Does slot t have a valid record of this key that is older than this version?
 pub fn is_older(image: &[u8], l: usize, t: usize, low: u64, high: u64, version: u64) -> bool
     requires { SlotInside image.now l t }
-    ensures result { result ≡ olderThan (contentsOf l image.now) (keyWith low high) version t }
+    ensures result { result ≡ older_than (contents_of l image.now) (key_with low high) version t }
 {
     if has_key(image, l, t, low, high) {
         let found = valid_version(image, t);
@@ -56,7 +56,7 @@ pub fn is_older(image: &[u8], l: usize, t: usize, low: u64, high: u64, version: 
 // Does any of the slots 1 to n?
 fn has_older(image: &[u8], l: usize, n: usize, low: u64, high: u64, version: u64) -> bool
     requires { Layout l × (128 * (n + 1) ≤ length image.now) }
-    ensures { result ≡ any_of (olderThan (contentsOf l image.now) (keyWith low high) version) 1 n }
+    ensures { result ≡ any_of (older_than (contents_of l image.now) (key_with low high) version) 1 n }
 {
     let end = n + 1;
     let mut t = 1;
@@ -72,7 +72,7 @@ fn has_older(image: &[u8], l: usize, n: usize, low: u64, high: u64, version: u64
 // Is slot s below this version by its line A, and no remove record? Then it may be taken, valid or not.
 pub fn is_low(image: &[u8], l: usize, s: usize, top: u64) -> bool
     requires { SlotInside image.now l s }
-    ensures result { result ≡ lowPut l (word image.now) top s }
+    ensures result { result ≡ low_put l (word image.now) top s }
 {
     if top <= read_word(image, 16 * s + 7) / 2 {
         return false;
@@ -84,7 +84,7 @@ pub fn is_low(image: &[u8], l: usize, s: usize, top: u64) -> bool
 // key is looked for only where scan says so.
 fn is_takeable(image: &[u8], l: usize, n: usize, top: u64, scan: bool, s: usize) -> bool
     requires { SlotInside image.now l s × (128 * (n + 1) ≤ length image.now) }
-    ensures { result ≡ takeable (contentsOf l image.now) n top scan s }
+    ensures { result ≡ takeable (contents_of l image.now) n top scan s }
 {
     let version = valid_version(image, s);
     if version == 0 {
@@ -107,7 +107,7 @@ fn is_takeable(image: &[u8], l: usize, n: usize, top: u64, scan: bool, s: usize)
 // The same, mostly by line A alone.
 pub fn may_take(image: &[u8], l: usize, n: usize, top: u64, scan: bool, s: usize) -> bool
     requires { SlotInside image.now l s × (128 * (n + 1) ≤ length image.now) }
-    ensures result { result ≡ takeable (contentsOf l image.now) n top scan s }
+    ensures result { result ≡ takeable (contents_of l image.now) n top scan s }
 {
     if is_low(image, l, s, top) {
         return true;

@@ -2,10 +2,10 @@
 ghost use Rattle.std.specs.Prelude.{◌≡◌, true, ◌+◌, ◌*◌, ◌≤◌, ◌<◌, length};
 ghost use Rattle.words.specs.Word.{word};
 ghost use Rattle.prelude.specs.Range.{greatest};
-ghost use Rattle.layout.specs.Content.{contentsOf};
-ghost use Rattle.allocation.specs.Allocation.{allocationByRule, namedVersion, ownAllocation, allocationBy};
-ghost use Rattle.allocation.specs.inner.Walk.{takeFault, endFault, walkFault, endsWell};
-ghost use Rattle.allocation.specs.inner.Takeable.{slotVersion, takeable, Walkable};
+ghost use Rattle.layout.specs.Content.{contents_of};
+ghost use Rattle.allocation.specs.Allocation.{allocation_by_rule, named_version, own_allocation, allocation_by};
+ghost use Rattle.allocation.specs.inner.Walk.{take_fault, end_fault, walk_fault, ends_well};
+ghost use Rattle.allocation.specs.inner.Takeable.{slot_version, takeable, Walkable};
 ghost use Rattle.allocation.specs.inner.Choice.{Unrefused, ToldBy};
 
 use crate::choose::choose_below;
@@ -26,7 +26,7 @@ fn few_of(n: usize) -> usize
 
 // 11 by the link of the slot that is taken, else 0; so many slots may still be met.
 pub fn end_fault(n: usize, left: usize, link: u32) -> u32
-    ensures result { result ≡ endFault n left link }
+    ensures result { result ≡ end_fault n left link }
 {
     if link == 0 {
         return 0;
@@ -53,7 +53,7 @@ fn walk_fault(
     scan: bool,
 ) -> u32
     requires { Walkable image.now next.now l n × (0 < wanted) }
-    ensures { result ≡ walkFault (takeable (contentsOf l image.now) n top scan) next.now n most wanted first }
+    ensures { result ≡ walk_fault (takeable (contents_of l image.now) n top scan) next.now n most wanted first }
 {
     let mut at = first;
     let mut left = most;
@@ -84,7 +84,7 @@ fn walk_fault(
 // The version of the slot that the state names as the newest, if it is valid, else 0: it is not above the highest.
 pub fn newest_version(image: &[u8], n: usize, newest: u32) -> u64
     requires { 128 * (n + 1) ≤ length image.now }
-    ensures result { result ≤ greatest (slotVersion (word image.now)) n }
+    ensures result { result ≤ greatest (slot_version (word image.now)) n }
 {
     let s = newest as usize;
     if s == 0 {
@@ -99,8 +99,8 @@ pub fn newest_version(image: &[u8], n: usize, newest: u32) -> u64
 // Is one of a few slots ahead, by its line A, below this version and no remove record, with a link that a chain has?
 // Mostly the first one is.
 fn is_open(image: &[u8], l: usize, next: &[u32], n: usize, first: u32, known: u64) -> bool
-    requires { Walkable image.now next.now l n × (known ≤ greatest (slotVersion (word image.now)) n) }
-    ensures { result ≡ true → takeFault (allocationByRule l image.now next.now n first 1) ≡ 0 }
+    requires { Walkable image.now next.now l n × (known ≤ greatest (slot_version (word image.now)) n) }
+    ensures { result ≡ true → take_fault (allocation_by_rule l image.now next.now n first 1) ≡ 0 }
 {
     let mut at = first;
     let mut left = few_of(n);
@@ -149,8 +149,8 @@ fn is_clear_ahead(
     wanted: usize,
     known: u64,
 ) -> bool
-    requires { Walkable image.now next.now l n × (0 < wanted) × (known ≤ greatest (slotVersion (word image.now)) n) }
-    ensures { result ≡ true → takeFault (allocationByRule l image.now next.now n first wanted) ≡ 0 }
+    requires { Walkable image.now next.now l n × (0 < wanted) × (known ≤ greatest (slot_version (word image.now)) n) }
+    ensures { result ≡ true → take_fault (allocation_by_rule l image.now next.now n first wanted) ≡ 0 }
 {
     if known == 0 {
         return walk_fault(image, l, next, n, first, few_of(n), wanted, known, false) == 0;
@@ -198,7 +198,7 @@ fn is_clear_by(
     known: u64,
     strict: bool,
 ) -> bool
-    requires { Walkable image.now next.now l n × (0 < wanted) × (wanted ≤ 8) × (known ≤ greatest (slotVersion (word image.now)) n) }
+    requires { Walkable image.now next.now l n × (0 < wanted) × (wanted ≤ 8) × (known ≤ greatest (slot_version (word image.now)) n) }
     ensures { result ≡ true → Unrefused l image.now next.now n first wanted known strict }
 {
     if known == 0 {
@@ -223,8 +223,8 @@ fn fault_by_all(
     wanted: usize,
     top: u64,
 ) -> u32
-    requires { Walkable image.now next.now l n × (0 < wanted) × (wanted ≤ 8) × (top ≡ greatest (slotVersion (word image.now)) n) }
-    ensures { result ≡ takeFault (allocationByRule l image.now next.now n first wanted) }
+    requires { Walkable image.now next.now l n × (0 < wanted) × (wanted ≤ 8) × (top ≡ greatest (slot_version (word image.now)) n) }
+    ensures { result ≡ take_fault (allocation_by_rule l image.now next.now n first wanted) }
 {
     let choice = choose_below(image, l, next, n, first, wanted, top);
     if choice.fault == 28 {
@@ -246,7 +246,7 @@ pub fn slots_told(
     known: u64,
     strict: bool,
 ) -> Told
-    requires { Walkable image.now next.now l n × (0 < wanted) × (wanted ≤ 8) × (known ≤ greatest (slotVersion (word image.now)) n) }
+    requires { Walkable image.now next.now l n × (0 < wanted) × (wanted ≤ 8) × (known ≤ greatest (slot_version (word image.now)) n) }
     ensures result { ToldBy l image.now next.now n first wanted result }
 {
     if is_clear_ahead(image, l, next, n, first, wanted, known) {
@@ -275,7 +275,7 @@ pub fn slots_told(
 // The same of a call that wants one slot, by the slot that the state names as the newest.
 fn take_fault(image: &[u8], l: usize, next: &[u32], n: usize, first: u32, newest: u32) -> u32
     requires { Walkable image.now next.now l n }
-    ensures { result ≡ takeFault (allocationByRule l image.now next.now n first 1) }
+    ensures { result ≡ take_fault (allocation_by_rule l image.now next.now n first 1) }
 {
     let known = newest_version(image, n, newest);
     let told = slots_told(image, l, next, n, first, 1, known, false);
@@ -285,7 +285,7 @@ fn take_fault(image: &[u8], l: usize, next: &[u32], n: usize, first: u32, newest
 // The version on line A of the slot that the state names as the newest, 0 where the image has no such slot.
 pub fn named_version(image: &[u8], n: usize, newest: u32) -> u64
     requires { 128 * (n + 1) ≤ length image.now }
-    ensures result { result ≡ namedVersion image.now n newest }
+    ensures result { result ≡ named_version image.now n newest }
 {
     let s = newest as usize;
     if n < s {
@@ -297,7 +297,7 @@ pub fn named_version(image: &[u8], n: usize, newest: u32) -> u64
 // Does line A of the first slot of the chain tell that it may be taken by a call for the owner of its index?
 fn is_own_open(image: &[u8], l: usize, next: &[u32], n: usize, first: u32, newest: u32) -> bool
     requires { Walkable image.now next.now l n × (0 < first) × (first ≤ n) }
-    ensures { result ≡ true → takeFault (ownAllocation l image.now next.now n first newest 1) ≡ 0 }
+    ensures { result ≡ true → take_fault (own_allocation l image.now next.now n first newest 1) ≡ 0 }
 {
     let t = first as usize;
     if next[t] as usize <= n {
@@ -317,7 +317,7 @@ pub fn is_open_by(
     newest: u32,
 ) -> bool
     requires { Walkable image.now next.now l n × (0 < first) × (first ≤ n) }
-    ensures result { result ≡ true → takeFault (allocationBy own l image.now next.now n first newest 1) ≡ 0 }
+    ensures result { result ≡ true → take_fault (allocation_by own l image.now next.now n first newest 1) ≡ 0 }
 {
     if own {
         return is_own_open(image, l, next, n, first, newest);
@@ -328,7 +328,7 @@ pub fn is_open_by(
 // 11 or 28 by the slot of a call for the owner of its index that wants one, else 0.
 fn own_fault(image: &[u8], l: usize, next: &[u32], n: usize, first: u32, newest: u32) -> u32
     requires { Walkable image.now next.now l n }
-    ensures { result ≡ takeFault (ownAllocation l image.now next.now n first newest 1) }
+    ensures { result ≡ take_fault (own_allocation l image.now next.now n first newest 1) }
 {
     let top = named_version(image, n, newest);
     let choice = choose_below(image, l, next, n, first, 1, top);
@@ -346,7 +346,7 @@ pub fn take_fault_by(
     newest: u32,
 ) -> u32
     requires { Walkable image.now next.now l n }
-    ensures result { result ≡ takeFault (allocationBy own l image.now next.now n first newest 1) }
+    ensures result { result ≡ take_fault (allocation_by own l image.now next.now n first newest 1) }
 {
     if own {
         return own_fault(image, l, next, n, first, newest);
@@ -357,7 +357,7 @@ pub fn take_fault_by(
 // Does the chain end after a few slots, with no link above n before?
 fn is_ending(next: &[u32], n: usize, first: u32) -> bool
     requires { length next.now ≡ n + 1 }
-    ensures { result ≡ true → endsWell next.now n n first ≡ true }
+    ensures { result ≡ true → ends_well next.now n n first ≡ true }
 {
     let mut at = first;
     let mut left = few_of(n);
@@ -379,7 +379,7 @@ fn is_ending(next: &[u32], n: usize, first: u32) -> bool
 // that it is no other; else 0, and the slots have to tell.
 pub fn full_fault(next: &[u32], n: usize, first: u32, room: u32) -> u32
     requires { length next.now ≡ n + 1 }
-    ensures result { (result ≡ 0 → ⊥) → (result ≡ room) × (endsWell next.now n n first ≡ true) }
+    ensures result { (result ≡ 0 → ⊥) → (result ≡ room) × (ends_well next.now n n first ≡ true) }
 {
     if room == 0 {
         return 0;

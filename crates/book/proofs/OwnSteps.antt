@@ -5,73 +5,73 @@ use mathlib.Core.List.{List}
 use Prim.Native.Nat.{ℕ}
 use lib.Dec.{eqb}
 use Rattle.prelude.specs.Answer.{Answer, gives, absent, refused}
-use Rattle.prelude.specs.Refusal.{unlessRefused}
-use Rattle.interface.specs.Set.{Mode, Insert, Replace, World, PlainMap, Call, write, remove, CallResult, callResult, callResultBy, writeResult, writeResultBy}
-use Rattle.interface.specs.Set.{removeResult, removeResultBy, locateResult}
+use Rattle.prelude.specs.Refusal.{unless_refused}
+use Rattle.interface.specs.Set.{Mode, Insert, Replace, World, PlainMap, Call, write, remove, CallResult, call_result, call_result_by, write_result, write_result_by}
+use Rattle.interface.specs.Set.{remove_result, remove_result_by, locate_result}
 use Rattle.interface.specs.Laws.{SetLaws}
-use Rattle.book.specs.Orders.{orderBytes, openOf, sent, acknowledged, filledBy}
-use Rattle.book.specs.Steps.{Step, new, acknowledge, fill, withdraw, BookResult, declined, idle, changeAnswers, asChange, Sought, order, none-there}
-use Rattle.book.specs.Steps.{seek, newAt, newResultBy, alreadyAt, acknowledgeAt, acknowledgeResultBy, quantityFault, fillBy, fillAt, fillResultBy}
-use Rattle.book.specs.Steps.{withdrawAt, withdrawResultBy, booked, bookedBy}
+use Rattle.book.specs.Orders.{order_bytes, open_of, sent, acknowledged, filled_by}
+use Rattle.book.specs.Steps.{Step, new, acknowledge, fill, withdraw, BookResult, declined, idle, change_answers, as_change, Sought, order, none_there}
+use Rattle.book.specs.Steps.{seek, new_at, new_result_by, already_at, acknowledge_at, acknowledge_result_by, quantity_fault, fill_by, fill_at, fill_result_by}
+use Rattle.book.specs.Steps.{withdraw_at, withdraw_result_by, booked, booked_by}
 
 module _ (l : ℕ) (Inv : World → PlainMap → Type 0) (laws : SetLaws l Inv) (w : World) (m : PlainMap) (i : Inv w m) where
-  by-called : CallResult → BookResult
-  by-called c = record { answer = changeAnswers c.answer; stores = c.stores; index = c.index }
+  by_called : CallResult → BookResult
+  by_called c = record { answer = change_answers c.answer; stores = c.stores; index = c.index }
 
-  own-write : (mode : Mode) (key : ℕ) (value : List ℕ)
-      → asChange (writeResultBy true l w.image w.index mode key value)
-      ≡ asChange (writeResult l w.image w.index mode key value)
-  unfolding callResultBy callResult asChange by-called
-  own-write mode key value = ap by-called (laws.either-call w m i true (write mode key value))
+  own_write : (mode : Mode) (key : ℕ) (value : List ℕ)
+      → as_change (write_result_by true l w.image w.index mode key value)
+      ≡ as_change (write_result l w.image w.index mode key value)
+  unfolding call_result_by call_result as_change by_called
+  own_write mode key value = ap by_called (laws.either_call w m i true (write mode key value))
 
-  own-remove : (key : ℕ)
-      → asChange (removeResultBy true l w.image w.index key)
-      ≡ asChange (removeResult l w.image w.index key)
-  unfolding callResultBy callResult asChange by-called
-  own-remove key = ap by-called (laws.either-call w m i true (remove key))
+  own_remove : (key : ℕ)
+      → as_change (remove_result_by true l w.image w.index key)
+      ≡ as_change (remove_result l w.image w.index key)
+  unfolding call_result_by call_result as_change by_called
+  own_remove key = ap by_called (laws.either_call w m i true (remove key))
 
   own_new : (key quantity : ℕ) (a : Answer)
-      → newAt true l w.image w.index key quantity a ≡ newAt false l w.image w.index key quantity a
-  unfolding newAt
+      → new_at true l w.image w.index key quantity a ≡ new_at false l w.image w.index key quantity a
+  unfolding new_at
   own_new key quantity (gives values) = refl
-  own_new key quantity absent = ap (cond (eqb quantity 0) (idle (declined 19) w.index)) (own-write Insert key (orderBytes (sent quantity)))
+  own_new key quantity absent = ap (cond (eqb quantity 0) (idle (declined 19) w.index)) (own_write Insert key (order_bytes (sent quantity)))
   own_new key quantity (refused number) = refl
 
-  own-acknowledge : (key : ℕ) (sought : Sought)
-      → acknowledgeAt true l w.image w.index key sought ≡ acknowledgeAt false l w.image w.index key sought
-  unfolding acknowledgeAt
-  own-acknowledge key (order o) =
-      ap (cond (eqb o.state 2) (alreadyAt w.index (locateResult l w.image w.index.heads w.index.next key).answer))
-      (own-write Replace key (orderBytes (acknowledged o)))
-  own-acknowledge key (none-there number) = refl
+  own_acknowledge : (key : ℕ) (sought : Sought)
+      → acknowledge_at true l w.image w.index key sought ≡ acknowledge_at false l w.image w.index key sought
+  unfolding acknowledge_at
+  own_acknowledge key (order o) =
+      ap (cond (eqb o.state 2) (already_at w.index (locate_result l w.image w.index.heads w.index.next key).answer))
+      (own_write Replace key (order_bytes (acknowledged o)))
+  own_acknowledge key (none_there number) = refl
 
-  own-fill-by : (key quantity : ℕ) (b : Bool) (value : List ℕ)
-      → cond b (asChange (removeResultBy true l w.image w.index key))
-      (asChange (writeResultBy true l w.image w.index Replace key value))
-      ≡ cond b (asChange (removeResult l w.image w.index key))
-      (asChange (writeResult l w.image w.index Replace key value))
-  own-fill-by key quantity true value = own-remove key
-  own-fill-by key quantity false value = own-write Replace key value
+  own_fill_by : (key quantity : ℕ) (b : Bool) (value : List ℕ)
+      → cond b (as_change (remove_result_by true l w.image w.index key))
+      (as_change (write_result_by true l w.image w.index Replace key value))
+      ≡ cond b (as_change (remove_result l w.image w.index key))
+      (as_change (write_result l w.image w.index Replace key value))
+  own_fill_by key quantity true value = own_remove key
+  own_fill_by key quantity false value = own_write Replace key value
 
-  own-fill : (key quantity : ℕ) (sought : Sought)
-      → fillAt true l w.image w.index key quantity sought ≡ fillAt false l w.image w.index key quantity sought
-  unfolding fillAt fillBy
-  own-fill key quantity (order o) =
-      ap (λ (r : BookResult). unlessRefused (quantityFault quantity (openOf o)) r (idle (declined (quantityFault quantity (openOf o))) w.index))
-      (own-fill-by key quantity (eqb quantity (openOf o)) (orderBytes (filledBy quantity o)))
-  own-fill key quantity (none-there number) = refl
+  own_fill : (key quantity : ℕ) (sought : Sought)
+      → fill_at true l w.image w.index key quantity sought ≡ fill_at false l w.image w.index key quantity sought
+  unfolding fill_at fill_by
+  own_fill key quantity (order o) =
+      ap (λ (r : BookResult). unless_refused (quantity_fault quantity (open_of o)) r (idle (declined (quantity_fault quantity (open_of o))) w.index))
+      (own_fill_by key quantity (eqb quantity (open_of o)) (order_bytes (filled_by quantity o)))
+  own_fill key quantity (none_there number) = refl
 
-  own-withdraw : (key : ℕ) (sought : Sought)
-      → withdrawAt true l w.image w.index key sought ≡ withdrawAt false l w.image w.index key sought
-  unfolding withdrawAt
-  own-withdraw key (order o) = own-remove key
-  own-withdraw key (none-there number) = refl
+  own_withdraw : (key : ℕ) (sought : Sought)
+      → withdraw_at true l w.image w.index key sought ≡ withdraw_at false l w.image w.index key sought
+  unfolding withdraw_at
+  own_withdraw key (order o) = own_remove key
+  own_withdraw key (none_there number) = refl
 
   -- THE STEPS FOR THE OWNER ARE THE STEPS
-  pub either-booked : (own : Bool) (step : Step) → bookedBy own l w step ≡ booked l w step
-  unfolding bookedBy newResultBy acknowledgeResultBy fillResultBy withdrawResultBy
-  either-booked false step = refl
-  either-booked true (new key quantity) = own_new key quantity (locateResult l w.image w.index.heads w.index.next key).answer
-  either-booked true (acknowledge key) = own-acknowledge key (seek l w.image w.index.heads w.index.next key)
-  either-booked true (fill key quantity) = own-fill key quantity (seek l w.image w.index.heads w.index.next key)
-  either-booked true (withdraw key) = own-withdraw key (seek l w.image w.index.heads w.index.next key)
+  pub either_booked : (own : Bool) (step : Step) → booked_by own l w step ≡ booked l w step
+  unfolding booked_by new_result_by acknowledge_result_by fill_result_by withdraw_result_by
+  either_booked false step = refl
+  either_booked true (new key quantity) = own_new key quantity (locate_result l w.image w.index.heads w.index.next key).answer
+  either_booked true (acknowledge key) = own_acknowledge key (seek l w.image w.index.heads w.index.next key)
+  either_booked true (fill key quantity) = own_fill key quantity (seek l w.image w.index.heads w.index.next key)
+  either_booked true (withdraw key) = own_withdraw key (seek l w.image w.index.heads w.index.next key)

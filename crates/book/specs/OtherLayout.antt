@@ -15,5 +15,5 @@ pub record AllGive3 (l : ℕ) (w : World) : Type 0 where
 -- where its image has the header with any other number as the header's layout, and so on every image that the recovery
 -- of that layout accepts; the index and the state may be any
 pub record OtherLayout : Type 0 where
-  pub by-header : (l other : ℕ) → (other ≡ l → ⊥) → (w : World) → HeaderOf other w.image → AllGive3 l w
-  pub on-accepted : (l other : ℕ) → (other ≡ l → ⊥) → (w : World) → Accepted other w.image → AllGive3 l w
+  pub by_header : (l other : ℕ) → (other ≡ l → ⊥) → (w : World) → HeaderOf other w.image → AllGive3 l w
+  pub on_accepted : (l other : ℕ) → (other ≡ l → ⊥) → (w : World) → Accepted other w.image → AllGive3 l w

@@ -1,8 +1,8 @@
 // A plan is carried out: at most one call that writes.
 ghost use Rattle.std.specs.Prelude.{◌≡◌, List, ℕ};
-ghost use Rattle.interface.specs.Set.{layoutNumber, keyWith, zipped, changeSays, changeEnd, index_of};
-ghost use Rattle.book.specs.Steps.{bookSays, bookEnd, bookBuffersAfter, changeAnswers, asChange};
-ghost use Rattle.book.specs.inner.Courses.{planSays, courseResult};
+ghost use Rattle.interface.specs.Set.{layout_number, key_with, zipped, change_says, change_end, index_of};
+ghost use Rattle.book.specs.Steps.{book_says, book_end, book_buffers_after, change_answers, as_change};
+ghost use Rattle.book.specs.inner.Courses.{plan_says, course_result};
 
 use book::{BookChange, BookOutcome, Plan};
 use book_plan_code::orders::order_bytes;
@@ -11,7 +11,7 @@ use orderset::{Change, Outcome, State};
 
 // A step's answer by the answer of its call; no step makes the call of a key that is not held.
 fn outcome_of(outcome: Outcome) -> BookOutcome
-    ensures { bookSays result ≡ changeAnswers (changeSays outcome) }
+    ensures { book_says result ≡ change_answers (change_says outcome) }
 {
     match outcome {
         Outcome::Stored { slot, version } => BookOutcome::Stored { slot, version },
@@ -22,7 +22,7 @@ fn outcome_of(outcome: Outcome) -> BookOutcome
 
 // What a step gives back by what its call gave back.
 fn by_change(change: Change) -> BookChange
-    ensures { (at value heads next : List ℕ) → bookEnd result at value heads next ≡ asChange (changeEnd change at value heads next) }
+    ensures { (at value heads next : List ℕ) → book_end result at value heads next ≡ as_change (change_end change at value heads next) }
 {
     let outcome = change.outcome;
     let state = change.state;
@@ -46,10 +46,10 @@ pub fn carry_out_plan(
     words: &mut [u64; 16],
     own: bool,
 ) -> BookChange
-    ensures result { bookEnd result at.new words.new heads.new next.new
-        ≡ bookBuffersAfter (zipped at.old words.old)
-        (courseResult own (layoutNumber wide) image.now (index_of heads.old next.old state) (keyWith low high)
-        (planSays plan)) }
+    ensures result { book_end result at.new words.new heads.new next.new
+        ≡ book_buffers_after (zipped at.old words.old)
+        (course_result own (layout_number wide) image.now (index_of heads.old next.old state) (key_with low high)
+        (plan_says plan)) }
 {
     match plan {
         Plan::Write { mode, order } => {

@@ -1,8 +1,8 @@
 // The steps in either layout: each reads, and then makes at most one call that writes. With `own` that is a call for the
 // owner of the index.
 ghost use Rattle.std.specs.Prelude.{◌≡◌};
-ghost use Rattle.interface.specs.Set.{layoutNumber, keyWith, zipped, index_of};
-ghost use Rattle.book.specs.Steps.{bookEnd, bookBuffersAfter, newResultBy, acknowledgeResultBy, fillResultBy, withdrawResultBy};
+ghost use Rattle.interface.specs.Set.{layout_number, key_with, zipped, index_of};
+ghost use Rattle.book.specs.Steps.{book_end, book_buffers_after, new_result_by, acknowledge_result_by, fill_result_by, withdraw_result_by};
 
 use crate::change::carry_out_plan;
 use book::BookChange;
@@ -23,9 +23,9 @@ pub fn new_in_layout(
     words: &mut [u64; 16],
     own: bool,
 ) -> BookChange
-    ensures result { bookEnd result at.new words.new heads.new next.new
-        ≡ bookBuffersAfter (zipped at.old words.old)
-        (newResultBy own (layoutNumber wide) image.now (index_of heads.old next.old state) (keyWith low high) quantity) }
+    ensures result { book_end result at.new words.new heads.new next.new
+        ≡ book_buffers_after (zipped at.old words.old)
+        (new_result_by own (layout_number wide) image.now (index_of heads.old next.old state) (key_with low high) quantity) }
 {
     let plan = new_plan(image, wide, heads, next, low, high, quantity);
     carry_out_plan(
@@ -46,9 +46,9 @@ pub fn acknowledge_in_layout(
     words: &mut [u64; 16],
     own: bool,
 ) -> BookChange
-    ensures result { bookEnd result at.new words.new heads.new next.new
-        ≡ bookBuffersAfter (zipped at.old words.old)
-        (acknowledgeResultBy own (layoutNumber wide) image.now (index_of heads.old next.old state) (keyWith low high)) }
+    ensures result { book_end result at.new words.new heads.new next.new
+        ≡ book_buffers_after (zipped at.old words.old)
+        (acknowledge_result_by own (layout_number wide) image.now (index_of heads.old next.old state) (key_with low high)) }
 {
     let plan = acknowledge_plan(image, wide, heads, next, low, high);
     carry_out_plan(
@@ -70,9 +70,9 @@ pub fn fill_in_layout(
     words: &mut [u64; 16],
     own: bool,
 ) -> BookChange
-    ensures result { bookEnd result at.new words.new heads.new next.new
-        ≡ bookBuffersAfter (zipped at.old words.old)
-        (fillResultBy own (layoutNumber wide) image.now (index_of heads.old next.old state) (keyWith low high) quantity) }
+    ensures result { book_end result at.new words.new heads.new next.new
+        ≡ book_buffers_after (zipped at.old words.old)
+        (fill_result_by own (layout_number wide) image.now (index_of heads.old next.old state) (key_with low high) quantity) }
 {
     let plan = fill_plan(image, wide, heads, next, low, high, quantity);
     carry_out_plan(
@@ -93,9 +93,9 @@ pub fn withdraw_in_layout(
     words: &mut [u64; 16],
     own: bool,
 ) -> BookChange
-    ensures result { bookEnd result at.new words.new heads.new next.new
-        ≡ bookBuffersAfter (zipped at.old words.old)
-        (withdrawResultBy own (layoutNumber wide) image.now (index_of heads.old next.old state) (keyWith low high)) }
+    ensures result { book_end result at.new words.new heads.new next.new
+        ≡ book_buffers_after (zipped at.old words.old)
+        (withdraw_result_by own (layout_number wide) image.now (index_of heads.old next.old state) (key_with low high)) }
 {
     let plan = withdraw_plan(image, wide, heads, next, low, high);
     carry_out_plan(

@@ -1,7 +1,7 @@
 // The steps: each reads, and then makes at most one call that writes. A step whose name ends in 2 is layout 2's.
 ghost use Rattle.std.specs.Prelude.{◌≡◌};
-ghost use Rattle.interface.specs.Set.{keyWith, zipped, index_of};
-ghost use Rattle.book.specs.Steps.{bookEnd, bookBuffersAfter, newResult, acknowledgeResult, fillResult, withdrawResult};
+ghost use Rattle.interface.specs.Set.{key_with, zipped, index_of};
+ghost use Rattle.book.specs.Steps.{book_end, book_buffers_after, new_result, acknowledge_result, fill_result, withdraw_result};
 
 use book::BookChange;
 use book_change_code::layouts::{
@@ -21,9 +21,9 @@ pub fn new(
     at: &mut [u32; 16],
     words: &mut [u64; 16],
 ) -> BookChange
-    ensures result { bookEnd result at.new words.new heads.new next.new
-        ≡ bookBuffersAfter (zipped at.old words.old)
-        (newResult 1 image.now (index_of heads.old next.old state) key quantity) }
+    ensures result { book_end result at.new words.new heads.new next.new
+        ≡ book_buffers_after (zipped at.old words.old)
+        (new_result 1 image.now (index_of heads.old next.old state) key quantity) }
 {
     new_in_layout(
         image, false, heads, next, state, key, 0, quantity, at, words, false,
@@ -41,9 +41,9 @@ pub fn acknowledge(
     at: &mut [u32; 16],
     words: &mut [u64; 16],
 ) -> BookChange
-    ensures result { bookEnd result at.new words.new heads.new next.new
-        ≡ bookBuffersAfter (zipped at.old words.old)
-        (acknowledgeResult 1 image.now (index_of heads.old next.old state) key) }
+    ensures result { book_end result at.new words.new heads.new next.new
+        ≡ book_buffers_after (zipped at.old words.old)
+        (acknowledge_result 1 image.now (index_of heads.old next.old state) key) }
 {
     acknowledge_in_layout(image, false, heads, next, state, key, 0, at, words, false)
 }
@@ -59,9 +59,9 @@ pub fn fill(
     at: &mut [u32; 16],
     words: &mut [u64; 16],
 ) -> BookChange
-    ensures result { bookEnd result at.new words.new heads.new next.new
-        ≡ bookBuffersAfter (zipped at.old words.old)
-        (fillResult 1 image.now (index_of heads.old next.old state) key quantity) }
+    ensures result { book_end result at.new words.new heads.new next.new
+        ≡ book_buffers_after (zipped at.old words.old)
+        (fill_result 1 image.now (index_of heads.old next.old state) key quantity) }
 {
     fill_in_layout(
         image, false, heads, next, state, key, 0, quantity, at, words, false,
@@ -78,9 +78,9 @@ pub fn withdraw(
     at: &mut [u32; 16],
     words: &mut [u64; 16],
 ) -> BookChange
-    ensures result { bookEnd result at.new words.new heads.new next.new
-        ≡ bookBuffersAfter (zipped at.old words.old)
-        (withdrawResult 1 image.now (index_of heads.old next.old state) key) }
+    ensures result { book_end result at.new words.new heads.new next.new
+        ≡ book_buffers_after (zipped at.old words.old)
+        (withdraw_result 1 image.now (index_of heads.old next.old state) key) }
 {
     withdraw_in_layout(image, false, heads, next, state, key, 0, at, words, false)
 }
@@ -97,9 +97,9 @@ pub fn new2(
     at: &mut [u32; 16],
     words: &mut [u64; 16],
 ) -> BookChange
-    ensures result { bookEnd result at.new words.new heads.new next.new
-        ≡ bookBuffersAfter (zipped at.old words.old)
-        (newResult 2 image.now (index_of heads.old next.old state) (keyWith low high) quantity) }
+    ensures result { book_end result at.new words.new heads.new next.new
+        ≡ book_buffers_after (zipped at.old words.old)
+        (new_result 2 image.now (index_of heads.old next.old state) (key_with low high) quantity) }
 {
     new_in_layout(
         image, true, heads, next, state, low, high, quantity, at, words, false,
@@ -117,9 +117,9 @@ pub fn acknowledge2(
     at: &mut [u32; 16],
     words: &mut [u64; 16],
 ) -> BookChange
-    ensures result { bookEnd result at.new words.new heads.new next.new
-        ≡ bookBuffersAfter (zipped at.old words.old)
-        (acknowledgeResult 2 image.now (index_of heads.old next.old state) (keyWith low high)) }
+    ensures result { book_end result at.new words.new heads.new next.new
+        ≡ book_buffers_after (zipped at.old words.old)
+        (acknowledge_result 2 image.now (index_of heads.old next.old state) (key_with low high)) }
 {
     acknowledge_in_layout(image, true, heads, next, state, low, high, at, words, false)
 }
@@ -136,9 +136,9 @@ pub fn fill2(
     at: &mut [u32; 16],
     words: &mut [u64; 16],
 ) -> BookChange
-    ensures result { bookEnd result at.new words.new heads.new next.new
-        ≡ bookBuffersAfter (zipped at.old words.old)
-        (fillResult 2 image.now (index_of heads.old next.old state) (keyWith low high) quantity) }
+    ensures result { book_end result at.new words.new heads.new next.new
+        ≡ book_buffers_after (zipped at.old words.old)
+        (fill_result 2 image.now (index_of heads.old next.old state) (key_with low high) quantity) }
 {
     fill_in_layout(
         image, true, heads, next, state, low, high, quantity, at, words, false,
@@ -156,9 +156,9 @@ pub fn withdraw2(
     at: &mut [u32; 16],
     words: &mut [u64; 16],
 ) -> BookChange
-    ensures result { bookEnd result at.new words.new heads.new next.new
-        ≡ bookBuffersAfter (zipped at.old words.old)
-        (withdrawResult 2 image.now (index_of heads.old next.old state) (keyWith low high)) }
+    ensures result { book_end result at.new words.new heads.new next.new
+        ≡ book_buffers_after (zipped at.old words.old)
+        (withdraw_result 2 image.now (index_of heads.old next.old state) (key_with low high)) }
 {
     withdraw_in_layout(image, true, heads, next, state, low, high, at, words, false)
 }

@@ -2,8 +2,8 @@
 // is the step of its name by a call for the owner. Such calls are no calls of document 01, whose refusals hold for any
 // index. A step whose name ends in 2 is layout 2's.
 ghost use Rattle.std.specs.Prelude.{◌≡◌, true};
-ghost use Rattle.interface.specs.Set.{keyWith, zipped, index_of};
-ghost use Rattle.book.specs.Steps.{bookEnd, bookBuffersAfter, newResultBy, acknowledgeResultBy, fillResultBy, withdrawResultBy};
+ghost use Rattle.interface.specs.Set.{key_with, zipped, index_of};
+ghost use Rattle.book.specs.Steps.{book_end, book_buffers_after, new_result_by, acknowledge_result_by, fill_result_by, withdraw_result_by};
 
 use book::BookChange;
 use book_change_code::layouts::{
@@ -22,9 +22,9 @@ pub fn own_new(
     at: &mut [u32; 16],
     words: &mut [u64; 16],
 ) -> BookChange
-    ensures result { bookEnd result at.new words.new heads.new next.new
-        ≡ bookBuffersAfter (zipped at.old words.old)
-        (newResultBy true 1 image.now (index_of heads.old next.old state) key quantity) }
+    ensures result { book_end result at.new words.new heads.new next.new
+        ≡ book_buffers_after (zipped at.old words.old)
+        (new_result_by true 1 image.now (index_of heads.old next.old state) key quantity) }
 {
     new_in_layout(
         image, false, heads, next, state, key, 0, quantity, at, words, true,
@@ -41,9 +41,9 @@ pub fn own_acknowledge(
     at: &mut [u32; 16],
     words: &mut [u64; 16],
 ) -> BookChange
-    ensures result { bookEnd result at.new words.new heads.new next.new
-        ≡ bookBuffersAfter (zipped at.old words.old)
-        (acknowledgeResultBy true 1 image.now (index_of heads.old next.old state) key) }
+    ensures result { book_end result at.new words.new heads.new next.new
+        ≡ book_buffers_after (zipped at.old words.old)
+        (acknowledge_result_by true 1 image.now (index_of heads.old next.old state) key) }
 {
     acknowledge_in_layout(image, false, heads, next, state, key, 0, at, words, true)
 }
@@ -59,9 +59,9 @@ pub fn own_fill(
     at: &mut [u32; 16],
     words: &mut [u64; 16],
 ) -> BookChange
-    ensures result { bookEnd result at.new words.new heads.new next.new
-        ≡ bookBuffersAfter (zipped at.old words.old)
-        (fillResultBy true 1 image.now (index_of heads.old next.old state) key quantity) }
+    ensures result { book_end result at.new words.new heads.new next.new
+        ≡ book_buffers_after (zipped at.old words.old)
+        (fill_result_by true 1 image.now (index_of heads.old next.old state) key quantity) }
 {
     fill_in_layout(
         image, false, heads, next, state, key, 0, quantity, at, words, true,
@@ -78,9 +78,9 @@ pub fn own_withdraw(
     at: &mut [u32; 16],
     words: &mut [u64; 16],
 ) -> BookChange
-    ensures result { bookEnd result at.new words.new heads.new next.new
-        ≡ bookBuffersAfter (zipped at.old words.old)
-        (withdrawResultBy true 1 image.now (index_of heads.old next.old state) key) }
+    ensures result { book_end result at.new words.new heads.new next.new
+        ≡ book_buffers_after (zipped at.old words.old)
+        (withdraw_result_by true 1 image.now (index_of heads.old next.old state) key) }
 {
     withdraw_in_layout(image, false, heads, next, state, key, 0, at, words, true)
 }
@@ -97,9 +97,9 @@ pub fn own_new2(
     at: &mut [u32; 16],
     words: &mut [u64; 16],
 ) -> BookChange
-    ensures result { bookEnd result at.new words.new heads.new next.new
-        ≡ bookBuffersAfter (zipped at.old words.old)
-        (newResultBy true 2 image.now (index_of heads.old next.old state) (keyWith low high) quantity) }
+    ensures result { book_end result at.new words.new heads.new next.new
+        ≡ book_buffers_after (zipped at.old words.old)
+        (new_result_by true 2 image.now (index_of heads.old next.old state) (key_with low high) quantity) }
 {
     new_in_layout(
         image, true, heads, next, state, low, high, quantity, at, words, true,
@@ -117,9 +117,9 @@ pub fn own_acknowledge2(
     at: &mut [u32; 16],
     words: &mut [u64; 16],
 ) -> BookChange
-    ensures result { bookEnd result at.new words.new heads.new next.new
-        ≡ bookBuffersAfter (zipped at.old words.old)
-        (acknowledgeResultBy true 2 image.now (index_of heads.old next.old state) (keyWith low high)) }
+    ensures result { book_end result at.new words.new heads.new next.new
+        ≡ book_buffers_after (zipped at.old words.old)
+        (acknowledge_result_by true 2 image.now (index_of heads.old next.old state) (key_with low high)) }
 {
     acknowledge_in_layout(image, true, heads, next, state, low, high, at, words, true)
 }
@@ -136,9 +136,9 @@ pub fn own_fill2(
     at: &mut [u32; 16],
     words: &mut [u64; 16],
 ) -> BookChange
-    ensures result { bookEnd result at.new words.new heads.new next.new
-        ≡ bookBuffersAfter (zipped at.old words.old)
-        (fillResultBy true 2 image.now (index_of heads.old next.old state) (keyWith low high) quantity) }
+    ensures result { book_end result at.new words.new heads.new next.new
+        ≡ book_buffers_after (zipped at.old words.old)
+        (fill_result_by true 2 image.now (index_of heads.old next.old state) (key_with low high) quantity) }
 {
     fill_in_layout(
         image, true, heads, next, state, low, high, quantity, at, words, true,
@@ -156,9 +156,9 @@ pub fn own_withdraw2(
     at: &mut [u32; 16],
     words: &mut [u64; 16],
 ) -> BookChange
-    ensures result { bookEnd result at.new words.new heads.new next.new
-        ≡ bookBuffersAfter (zipped at.old words.old)
-        (withdrawResultBy true 2 image.now (index_of heads.old next.old state) (keyWith low high)) }
+    ensures result { book_end result at.new words.new heads.new next.new
+        ≡ book_buffers_after (zipped at.old words.old)
+        (withdraw_result_by true 2 image.now (index_of heads.old next.old state) (key_with low high)) }
 {
     withdraw_in_layout(image, true, heads, next, state, low, high, at, words, true)
 }

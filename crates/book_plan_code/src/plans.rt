@@ -1,9 +1,9 @@
 // What each step is to do, by what it reads. Nothing is written here. A key is two words, the high one 0 in layout 1.
 ghost use Rattle.std.specs.Prelude.{◌≡◌, ◌<◌, replicate};
-ghost use Rattle.interface.specs.Set.{layoutNumber, keyWith, limit, locateSays, locateResult};
+ghost use Rattle.interface.specs.Set.{layout_number, key_with, limit, locate_says, locate_result};
 ghost use Rattle.book.specs.Steps.{seek};
-ghost use Rattle.book.specs.inner.Courses.{seekSays, soughtNumber, planSays, newCourse};
-ghost use Rattle.book.specs.inner.Courses.{alreadyCourse, acknowledgeCourse, fillOrder, fillCourse, withdrawCourse};
+ghost use Rattle.book.specs.inner.Courses.{seek_says, sought_number, plan_says, new_course};
+ghost use Rattle.book.specs.inner.Courses.{already_course, acknowledge_course, fill_order, fill_course, withdraw_course};
 
 use crate::orders::order_in;
 use book::{Order, Plan, Seek};
@@ -12,7 +12,7 @@ use orderset::{Got, Located, Mode};
 
 // The number of a get's refusal, as a step says it.
 fn sought_number(number: u32) -> u32
-    ensures { result ≡ soughtNumber number }
+    ensures { result ≡ sought_number number }
 {
     if number == 23 {
         return 18;
@@ -30,9 +30,9 @@ fn seek_with(
     high: u64,
     out: &mut [u8],
 ) -> Seek
-    requires { out.old ≡ replicate (limit (layoutNumber wide)) 0 }
-    ensures order { seekSays result
-        ≡ seek (layoutNumber wide) image.now heads.now next.now (keyWith low high) }
+    requires { out.old ≡ replicate (limit (layout_number wide)) 0 }
+    ensures order { seek_says result
+        ≡ seek (layout_number wide) image.now heads.now next.now (key_with low high) }
 {
     let answer = get_in_layout(image, wide, heads, next, low, high, out);
     let got = answer.got;
@@ -45,8 +45,8 @@ fn seek_with(
 
 // The order of the key, or a refusal.
 fn seek_order(image: &[u8], wide: bool, heads: &[u32], next: &[u32], low: u64, high: u64) -> Seek
-    ensures order { seekSays result
-        ≡ seek (layoutNumber wide) image.now heads.now next.now (keyWith low high) }
+    ensures order { seek_says result
+        ≡ seek (layout_number wide) image.now heads.now next.now (key_with low high) }
 {
     let mut out = [0u8; 80];
     let size = 88 - 8 * layout_number(wide);
@@ -55,7 +55,7 @@ fn seek_order(image: &[u8], wide: bool, heads: &[u32], next: &[u32], low: u64, h
 
 // A new order, by what locate answers for its key.
 fn new_located(located: Located, quantity: u64) -> Plan
-    ensures { planSays result ≡ newCourse quantity (locateSays located) }
+    ensures { plan_says result ≡ new_course quantity (locate_says located) }
 {
     match located {
         Located::At {
@@ -89,8 +89,8 @@ pub fn new_plan(
     high: u64,
     quantity: u64,
 ) -> Plan
-    ensures plan { planSays result
-        ≡ newCourse quantity (locateResult (layoutNumber wide) image.now heads.now next.now (keyWith low high)).answer }
+    ensures plan { plan_says result
+        ≡ new_course quantity (locate_result (layout_number wide) image.now heads.now next.now (key_with low high)).answer }
 {
     let answer = locate_in_layout(image, wide, heads, next, low, high);
     let located = answer.located;
@@ -99,7 +99,7 @@ pub fn new_plan(
 
 // An acknowledge of an order that was acknowledged before, by what locate answers for its key.
 fn already_located(located: Located) -> Plan
-    ensures { planSays result ≡ alreadyCourse (locateSays located) }
+    ensures { plan_says result ≡ already_course (locate_says located) }
 {
     match located {
         Located::At { slot, version } => Plan::Already { slot, version },
@@ -117,10 +117,10 @@ pub fn acknowledge_plan(
     low: u64,
     high: u64,
 ) -> Plan
-    ensures plan { planSays result
-        ≡ acknowledgeCourse
-        (locateResult (layoutNumber wide) image.now heads.now next.now (keyWith low high)).answer
-        (seek (layoutNumber wide) image.now heads.now next.now (keyWith low high)) }
+    ensures plan { plan_says result
+        ≡ acknowledge_course
+        (locate_result (layout_number wide) image.now heads.now next.now (key_with low high)).answer
+        (seek (layout_number wide) image.now heads.now next.now (key_with low high)) }
 {
     let sought = seek_order(image, wide, heads, next, low, high);
     match sought {
@@ -146,7 +146,7 @@ pub fn acknowledge_plan(
 // A fill of this order.
 fn fill_order(order: Order, quantity: u64) -> Plan
     requires { order.filled < order.ordered }
-    ensures { planSays result ≡ fillOrder quantity order }
+    ensures { plan_says result ≡ fill_order quantity order }
 {
     let open = order.ordered - order.filled;
     if quantity == 0 {
@@ -178,8 +178,8 @@ pub fn fill_plan(
     high: u64,
     quantity: u64,
 ) -> Plan
-    ensures plan { planSays result
-        ≡ fillCourse quantity (seek (layoutNumber wide) image.now heads.now next.now (keyWith low high)) }
+    ensures plan { plan_says result
+        ≡ fill_course quantity (seek (layout_number wide) image.now heads.now next.now (key_with low high)) }
 {
     let sought = seek_order(image, wide, heads, next, low, high);
     match sought {
@@ -197,8 +197,8 @@ pub fn withdraw_plan(
     low: u64,
     high: u64,
 ) -> Plan
-    ensures plan { planSays result
-        ≡ withdrawCourse (seek (layoutNumber wide) image.now heads.now next.now (keyWith low high)) }
+    ensures plan { plan_says result
+        ≡ withdraw_course (seek (layout_number wide) image.now heads.now next.now (key_with low high)) }
 {
     let sought = seek_order(image, wide, heads, next, low, high);
     match sought {

@@ -6,17 +6,17 @@ use Prim.Native.Nat.{ℕ, zero, suc, ◌+◌, ◌-◌}
 use native.Mathlib.Omega.{arith}
 use lib.ListN.{length, drop}
 use Rattle.words.specs.Word.{word}
-use Rattle.prelude.specs.Refusal.{unlessRefused}
+use Rattle.prelude.specs.Refusal.{unless_refused}
 use Rattle.prelude.specs.Answer.{gives, absent, refused}
-use Rattle.prelude.proofs.Refusals.{orElse-zero, taken-leaves, refused-keeps}
-use Rattle.layout.specs.Size.{slotsIn}
-use Rattle.layout.specs.Line.{lineA, lineB}
-use Rattle.layout.specs.Record.{valueFront, value_of}
+use Rattle.prelude.proofs.Refusals.{or_else_zero, taken_leaves, refused_keeps}
+use Rattle.layout.specs.Size.{slots_in}
+use Rattle.layout.specs.Line.{line_a, line_b}
+use Rattle.layout.specs.Record.{value_front, value_of}
 use Rattle.index.specs.Index.{Index, head_of}
-use Rattle.index.specs.Walk.{search, chainFault, comparedIn}
-use Rattle.calls.specs.Compared.{comparedAfter, keyCompared}
-use Rattle.allocation.specs.Allocation.{allocationBy}
-use Rattle.index.specs.Change.{takeFirst}
+use Rattle.index.specs.Walk.{search, chain_fault, compared_in}
+use Rattle.calls.specs.Compared.{compared_after, key_compared}
+use Rattle.allocation.specs.Allocation.{allocation_by}
+use Rattle.index.specs.Change.{take_first}
 use Rattle.index.specs.declared.State.{State}
 use Rattle.index.specs.declared.Mode.{Mode}
 use Rattle.index.specs.declared.Place.{Place}
@@ -25,13 +25,13 @@ use Rattle.index.specs.declared.Lookup.{Lookup}
 use Rattle.index.specs.declared.Lookup.TheVariants.{Refused, Accepted}
 use Rattle.index.specs.declared.Found.{Found}
 use Rattle.index.specs.declared.Found.TheVariants.{At, Missing, BadChain}
-use Rattle.calls.specs.Change.{changed, writeCompared, writeLaterFault, writeFaultBy, writeDone, writeUnless, writeResultBy, removeLaterFault}
-use Rattle.calls.specs.Change.{removeFaultBy, removeDone, removeUnless, removeResultBy}
+use Rattle.calls.specs.Change.{changed, write_compared, write_later_fault, write_fault_by, write_done, write_unless, write_result_by, remove_later_fault}
+use Rattle.calls.specs.Change.{remove_fault_by, remove_done, remove_unless, remove_result_by}
 use Rattle.calls.specs.Result.{unchanged, ReadOnlyResult}
-use Rattle.calls.specs.Get.{slotLength, getLaterFault, getFault, getDone, getResult}
-use Rattle.index.specs.inner.Parts.{insertNew, replaceHeld, removeHeld, writeAt, liveAt}
-use Rattle.index.specs.inner.Lookup.{lookupBy}
-use Rattle.calls.specs.inner.Lookup.{lookupOf, LooksUp, WriteLookup, RemoveLookup, GetLookup}
+use Rattle.calls.specs.Get.{slot_length, get_later_fault, get_fault, get_done, get_result}
+use Rattle.index.specs.inner.Parts.{insert_new, replace_held, remove_held, write_at, live_at}
+use Rattle.index.specs.inner.Lookup.{lookup_by}
+use Rattle.calls.specs.inner.Lookup.{lookup_of, LooksUp, WriteLookup, RemoveLookup, GetLookup}
 
 -- what a lookup says of the call's refusal and of what was found
 abbrev Says : (fault : ℕ) → Found → Lookup → Type 0
@@ -40,8 +40,8 @@ Says fault found (Accepted (Held slot prev) compared) = (fault ≡ 0) × (found 
 Says fault found (Accepted (NotHeld prev) compared) = (fault ≡ 0) × (found ≡ Missing prev compared)
 
 says : (fault lent : ℕ) (found : Found) → (fault ≡ 0 → lent ≡ 0) → (fault ≡ 0 → found ≡ BadChain → ⊥)
-    → Says fault found (lookupOf fault lent found)
-unfolding lookupOf lookupBy unlessRefused
+    → Says fault found (lookup_of fault lent found)
+unfolding lookup_of lookup_by unless_refused
 says zero zero (At slot prev compared) first bad = (refl, refl)
 says zero zero (Missing prev compared) first bad = (refl, refl)
 says zero zero BadChain first bad = absurd (bad refl refl)
@@ -59,20 +59,20 @@ module _
   told : (known : Lookup) → r ≡ known → Says fault found known
   told known e = subst (Says fault found) (sym u.is ∙ e) (says fault lent found first bad)
 
-  result-refused : (number compared : ℕ) → r ≡ Refused number compared → left ≡ keep number
-      → left ≡ unlessRefused fault (done found) (keep fault)
-  result-refused number compared e h =
-      let t = told (Refused number compared) e in h ∙ ap keep (sym t.0) ∙ sym (refused-keeps _ _ fault t.1)
+  result_refused : (number compared : ℕ) → r ≡ Refused number compared → left ≡ keep number
+      → left ≡ unless_refused fault (done found) (keep fault)
+  result_refused number compared e h =
+      let t = told (Refused number compared) e in h ∙ ap keep (sym t.0) ∙ sym (refused_keeps _ _ fault t.1)
 
-  result-held : (slot prev compared : ℕ) → r ≡ Accepted (Held slot prev) compared → left ≡ done (At slot prev compared)
-      → left ≡ unlessRefused fault (done found) (keep fault)
-  result-held slot prev compared e h =
-      let t = told (Accepted (Held slot prev) compared) e in h ∙ ap done (sym t.1) ∙ sym (taken-leaves _ _ fault t.0)
+  result_held : (slot prev compared : ℕ) → r ≡ Accepted (Held slot prev) compared → left ≡ done (At slot prev compared)
+      → left ≡ unless_refused fault (done found) (keep fault)
+  result_held slot prev compared e h =
+      let t = told (Accepted (Held slot prev) compared) e in h ∙ ap done (sym t.1) ∙ sym (taken_leaves _ _ fault t.0)
 
-  result-not-held : (prev compared : ℕ) → r ≡ Accepted (NotHeld prev) compared → left ≡ done (Missing prev compared)
-      → left ≡ unlessRefused fault (done found) (keep fault)
-  result-not-held prev compared e h =
-      let t = told (Accepted (NotHeld prev) compared) e in h ∙ ap done (sym t.1) ∙ sym (taken-leaves _ _ fault t.0)
+  result_not_held : (prev compared : ℕ) → r ≡ Accepted (NotHeld prev) compared → left ≡ done (Missing prev compared)
+      → left ≡ unless_refused fault (done found) (keep fault)
+  result_not_held prev compared e h =
+      let t = told (Accepted (NotHeld prev) compared) e in h ∙ ap done (sym t.1) ∙ sym (taken_leaves _ _ fault t.0)
 
 -- ---- the count of slots compared, by the lookup
 
@@ -80,132 +80,132 @@ abbrev counted : Lookup → ℕ
 counted (Refused number compared) = compared
 counted (Accepted place compared) = compared
 
-lookup-counted : (fault lent : ℕ) (found : Found) → counted (lookupOf fault lent found) ≡ comparedAfter lent found
-unfolding lookupOf lookupBy unlessRefused comparedAfter comparedIn
-lookup-counted zero zero (At slot prev compared) = refl
-lookup-counted zero zero (Missing prev compared) = refl
-lookup-counted (suc k) zero (At slot prev compared) = refl
-lookup-counted (suc k) zero (Missing prev compared) = refl
-lookup-counted fault zero BadChain = refl
-lookup-counted fault (suc lent) found = refl
+lookup_counted : (fault lent : ℕ) (found : Found) → counted (lookup_of fault lent found) ≡ compared_after lent found
+unfolding lookup_of lookup_by unless_refused compared_after compared_in
+lookup_counted zero zero (At slot prev compared) = refl
+lookup_counted zero zero (Missing prev compared) = refl
+lookup_counted (suc k) zero (At slot prev compared) = refl
+lookup_counted (suc k) zero (Missing prev compared) = refl
+lookup_counted fault zero BadChain = refl
+lookup_counted fault (suc lent) found = refl
 
 module _ {fault lent : ℕ} {found : Found} {Ready : Lookup → Type 0} {r : Lookup} (u : LooksUp fault lent found Ready r) where
-  told-count : (known : Lookup) → r ≡ known → counted known ≡ comparedAfter lent found
-  told-count known e = ap counted (sym e ∙ u.is) ∙ lookup-counted fault lent found
+  told_count : (known : Lookup) → r ≡ known → counted known ≡ compared_after lent found
+  told_count known e = ap counted (sym e ∙ u.is) ∙ lookup_counted fault lent found
 
-  pub refused-count : (number compared : ℕ) → r ≡ Refused number compared → compared ≡ comparedAfter lent found
-  refused-count number compared e = told-count (Refused number compared) e
+  pub refused_count : (number compared : ℕ) → r ≡ Refused number compared → compared ≡ compared_after lent found
+  refused_count number compared e = told_count (Refused number compared) e
 
-  pub allowed-count : (place : Place) (compared : ℕ) → r ≡ Accepted place compared → compared ≡ comparedAfter lent found
-  allowed-count place compared e = told-count (Accepted place compared) e
+  pub allowed_count : (place : Place) (compared : ℕ) → r ≡ Accepted place compared → compared ≡ compared_after lent found
+  allowed_count place compared e = told_count (Accepted place compared) e
 
 -- ---- insert and replace: h is the key's head as the code finds it
 
 module _ (own : Bool) (l : ℕ) (image : List ℕ) (i : Index) (mode : Mode) (key : ℕ) (value : List ℕ) where
-  pub write-bad : writeFaultBy own l image i mode key (length value) ≡ 0 → search l image i.heads i.next key ≡ BadChain → ⊥
-  unfolding writeFaultBy writeLaterFault chainFault
-  write-bad z e = omega (arith, sym (ap chainFault e) ∙ (orElse-zero _ _ (orElse-zero _ _ z).1).0)
+  pub write_bad : write_fault_by own l image i mode key (length value) ≡ 0 → search l image i.heads i.next key ≡ BadChain → ⊥
+  unfolding write_fault_by write_later_fault chain_fault
+  write_bad z e = omega (arith, sym (ap chain_fault e) ∙ (or_else_zero _ _ (or_else_zero _ _ z).1).0)
 
   module _ (r : Lookup) (u : WriteLookup own l image i mode key (length value) r) where
-    pub write-refused : (number compared : ℕ) → r ≡ Refused number compared
-        → unchanged (refused number) i (writeCompared l image i key (length value)) ≡ writeResultBy own l image i mode key value
-    unfolding writeResultBy writeUnless writeFaultBy
-    write-refused number compared e =
-        result-refused (writeDone l image i key value i.state.first (takeFirst i) (writeCompared l image i key (length value)))
-        (λ k. unchanged (refused k) i (writeCompared l image i key (length value)))
-        (λ none. (orElse-zero _ _ none).0) write-bad u _ number compared e refl
+    pub write_refused : (number compared : ℕ) → r ≡ Refused number compared
+        → unchanged (refused number) i (write_compared l image i key (length value)) ≡ write_result_by own l image i mode key value
+    unfolding write_result_by write_unless write_fault_by
+    write_refused number compared e =
+        result_refused (write_done l image i key value i.state.first (take_first i) (write_compared l image i key (length value)))
+        (λ k. unchanged (refused k) i (write_compared l image i key (length value)))
+        (λ none. (or_else_zero _ _ none).0) write_bad u _ number compared e refl
 
     pub write_allowed : (place : Place) (compared h : ℕ) → r ≡ Accepted place compared → h ≡ head_of key (length i.heads)
-        → changed l image i.state i.state.first key 1 value (writeAt i h place) (liveAt i.state.live place)
-        (writeCompared l image i key (length value))
-        ≡ writeResultBy own l image i mode key value
-    unfolding writeResultBy writeUnless writeFaultBy writeDone writeAt liveAt insertNew replaceHeld
+        → changed l image i.state i.state.first key 1 value (write_at i h place) (live_at i.state.live place)
+        (write_compared l image i key (length value))
+        ≡ write_result_by own l image i mode key value
+    unfolding write_result_by write_unless write_fault_by write_done write_at live_at insert_new replace_held
     write_allowed (Held old prev) compared h e eh =
-        result-held (writeDone l image i key value i.state.first (takeFirst i) (writeCompared l image i key (length value)))
-        (λ k. unchanged (refused k) i (writeCompared l image i key (length value)))
-        (λ none. (orElse-zero _ _ none).0) write-bad u _ old prev compared e
-        (ap (λ (x : ℕ). changed l image i.state i.state.first key 1 value (replaceHeld i x prev old) i.state.live
-        (writeCompared l image i key (length value))) eh)
+        result_held (write_done l image i key value i.state.first (take_first i) (write_compared l image i key (length value)))
+        (λ k. unchanged (refused k) i (write_compared l image i key (length value)))
+        (λ none. (or_else_zero _ _ none).0) write_bad u _ old prev compared e
+        (ap (λ (x : ℕ). changed l image i.state i.state.first key 1 value (replace_held i x prev old) i.state.live
+        (write_compared l image i key (length value))) eh)
     write_allowed (NotHeld prev) compared h e eh =
-        result-not-held (writeDone l image i key value i.state.first (takeFirst i) (writeCompared l image i key (length value)))
-        (λ k. unchanged (refused k) i (writeCompared l image i key (length value)))
-        (λ none. (orElse-zero _ _ none).0) write-bad u _ prev compared e
-        (ap (λ (x : ℕ). changed l image i.state i.state.first key 1 value (insertNew i x prev) (i.state.live + 1)
-        (writeCompared l image i key (length value))) eh)
+        result_not_held (write_done l image i key value i.state.first (take_first i) (write_compared l image i key (length value)))
+        (λ k. unchanged (refused k) i (write_compared l image i key (length value)))
+        (λ none. (or_else_zero _ _ none).0) write_bad u _ prev compared e
+        (ap (λ (x : ℕ). changed l image i.state i.state.first key 1 value (insert_new i x prev) (i.state.live + 1)
+        (write_compared l image i key (length value))) eh)
 
 -- ---- remove
 
 module _ (own : Bool) (l : ℕ) (image : List ℕ) (i : Index) (key : ℕ) where
-  pub remove-bad : removeFaultBy own l image i key ≡ 0 → search l image i.heads i.next key ≡ BadChain → ⊥
-  unfolding removeFaultBy removeLaterFault
-  remove-bad z e =
+  pub remove_bad : remove_fault_by own l image i key ≡ 0 → search l image i.heads i.next key ≡ BadChain → ⊥
+  unfolding remove_fault_by remove_later_fault
+  remove_bad z e =
       omega (
         arith,
-        sym (ap (λ (d : Found). removeLaterFault d (allocationBy own l image i.next (slotsIn image) i.state.first i.state.newest 1)
-            (slotsIn image) i.state) e) ∙ (orElse-zero _ _ z).1,
+        sym (ap (λ (d : Found). remove_later_fault d (allocation_by own l image i.next (slots_in image) i.state.first i.state.newest 1)
+            (slots_in image) i.state) e) ∙ (or_else_zero _ _ z).1,
       )
 
   module _ (r : Lookup) (u : RemoveLookup own l image i key r) where
-    pub remove-refused : (number compared : ℕ) → r ≡ Refused number compared
-        → unchanged (refused number) i (keyCompared l image i.heads i.next key) ≡ removeResultBy own l image i key
-    unfolding removeResultBy removeUnless removeFaultBy
-    remove-refused number compared e =
-        result-refused (removeDone l image i key i.state.first (takeFirst i) (keyCompared l image i.heads i.next key))
-        (λ k. unchanged (refused k) i (keyCompared l image i.heads i.next key))
-        (λ none. (orElse-zero _ _ none).0) remove-bad u _ number compared e refl
+    pub remove_refused : (number compared : ℕ) → r ≡ Refused number compared
+        → unchanged (refused number) i (key_compared l image i.heads i.next key) ≡ remove_result_by own l image i key
+    unfolding remove_result_by remove_unless remove_fault_by
+    remove_refused number compared e =
+        result_refused (remove_done l image i key i.state.first (take_first i) (key_compared l image i.heads i.next key))
+        (λ k. unchanged (refused k) i (key_compared l image i.heads i.next key))
+        (λ none. (or_else_zero _ _ none).0) remove_bad u _ number compared e refl
 
     pub remove-held : (old prev compared h : ℕ) → r ≡ Accepted (Held old prev) compared → h ≡ head_of key (length i.heads)
-        → changed l image i.state i.state.first key 2 [] (removeHeld i h prev old) (i.state.live - 1) (keyCompared l image i.heads i.next key)
-        ≡ removeResultBy own l image i key
-    unfolding removeResultBy removeUnless removeFaultBy removeDone removeHeld
+        → changed l image i.state i.state.first key 2 [] (remove_held i h prev old) (i.state.live - 1) (key_compared l image i.heads i.next key)
+        ≡ remove_result_by own l image i key
+    unfolding remove_result_by remove_unless remove_fault_by remove_done remove_held
     remove-held old prev compared h e eh =
-        result-held (removeDone l image i key i.state.first (takeFirst i) (keyCompared l image i.heads i.next key))
-        (λ k. unchanged (refused k) i (keyCompared l image i.heads i.next key))
-        (λ none. (orElse-zero _ _ none).0) remove-bad u _ old prev compared e
-        (ap (λ (x : ℕ). changed l image i.state i.state.first key 2 [] (removeHeld i x prev old) (i.state.live - 1)
-        (keyCompared l image i.heads i.next key)) eh)
+        result_held (remove_done l image i key i.state.first (take_first i) (key_compared l image i.heads i.next key))
+        (λ k. unchanged (refused k) i (key_compared l image i.heads i.next key))
+        (λ none. (or_else_zero _ _ none).0) remove_bad u _ old prev compared e
+        (ap (λ (x : ℕ). changed l image i.state i.state.first key 2 [] (remove_held i x prev old) (i.state.live - 1)
+        (key_compared l image i.heads i.next key)) eh)
 
-    pub remove-not-held : (prev compared : ℕ) → r ≡ Accepted (NotHeld prev) compared
-        → unchanged absent i (keyCompared l image i.heads i.next key) ≡ removeResultBy own l image i key
-    unfolding removeResultBy removeUnless removeFaultBy removeDone
-    remove-not-held prev compared e =
-        result-not-held (removeDone l image i key i.state.first (takeFirst i) (keyCompared l image i.heads i.next key))
-        (λ k. unchanged (refused k) i (keyCompared l image i.heads i.next key))
-        (λ none. (orElse-zero _ _ none).0) remove-bad u _ prev compared e refl
+    pub remove_not_held : (prev compared : ℕ) → r ≡ Accepted (NotHeld prev) compared
+        → unchanged absent i (key_compared l image i.heads i.next key) ≡ remove_result_by own l image i key
+    unfolding remove_result_by remove_unless remove_fault_by remove_done
+    remove_not_held prev compared e =
+        result_not_held (remove_done l image i key i.state.first (take_first i) (key_compared l image i.heads i.next key))
+        (λ k. unchanged (refused k) i (key_compared l image i.heads i.next key))
+        (λ none. (or_else_zero _ _ none).0) remove_bad u _ prev compared e refl
 
 -- ---- get: what the answer and the output come to
 
 module _ (l : ℕ) (image heads next : List ℕ) (key : ℕ) (out : List ℕ) where
-  get-bad : getFault l image heads next key (length out) ≡ 0 → search l image heads next key ≡ BadChain → ⊥
-  unfolding getFault getLaterFault
-  get-bad z e = omega (arith, sym (ap (getLaterFault l image (length out)) e) ∙ (orElse-zero _ _ z).1)
+  get_bad : get_fault l image heads next key (length out) ≡ 0 → search l image heads next key ≡ BadChain → ⊥
+  unfolding get_fault get_later_fault
+  get_bad z e = omega (arith, sym (ap (get_later_fault l image (length out)) e) ∙ (or_else_zero _ _ z).1)
 
   module _ (r : Lookup) (u : GetLookup l image heads next key (length out) r) where
     pub get_refused : (number compared : ℕ) → r ≡ Refused number compared
-        → record { answer = refused number; out = out; compared = keyCompared l image heads next key } ≡ getResult l image heads next key out
-    unfolding getResult getFault
+        → record { answer = refused number; out = out; compared = key_compared l image heads next key } ≡ get_result l image heads next key out
+    unfolding get_result get_fault
     get_refused number compared e =
-        result-refused (getDone l image out (keyCompared l image heads next key))
-        (λ k. record { answer = refused k; out = out; compared = keyCompared l image heads next key })
-        (λ none. (orElse-zero _ _ none).0) get-bad u _ number compared e refl
+        result_refused (get_done l image out (key_compared l image heads next key))
+        (λ k. record { answer = refused k; out = out; compared = key_compared l image heads next key })
+        (λ none. (or_else_zero _ _ none).0) get_bad u _ number compared e refl
 
-    pub get-held : (slot prev compared : ℕ) → r ≡ Accepted (Held slot prev) compared → (n : ℕ) → n ≡ slotLength l image slot → (bytes : List ℕ)
-        → bytes ≡ valueFront l (lineA (word image) slot) (lineB (word image) slot) n ++ drop n out
-        → record { answer = gives (n ∷ []); out = bytes; compared = keyCompared l image heads next key } ≡ getResult l image heads next key out
-    unfolding getResult getFault getDone value_of
-    get-held slot prev compared e n q bytes h =
-        result-held (getDone l image out (keyCompared l image heads next key))
-        (λ k. record { answer = refused k; out = out; compared = keyCompared l image heads next key })
-        (λ none. (orElse-zero _ _ none).0) get-bad u _ slot prev compared e
-        (ap (ended n) h ∙ ap (λ (x : ℕ). ended x (valueFront l (lineA (word image) slot) (lineB (word image) slot) x ++ drop x out)) q)
+    pub get_held : (slot prev compared : ℕ) → r ≡ Accepted (Held slot prev) compared → (n : ℕ) → n ≡ slot_length l image slot → (bytes : List ℕ)
+        → bytes ≡ value_front l (line_a (word image) slot) (line_b (word image) slot) n ++ drop n out
+        → record { answer = gives (n ∷ []); out = bytes; compared = key_compared l image heads next key } ≡ get_result l image heads next key out
+    unfolding get_result get_fault get_done value_of
+    get_held slot prev compared e n q bytes h =
+        result_held (get_done l image out (key_compared l image heads next key))
+        (λ k. record { answer = refused k; out = out; compared = key_compared l image heads next key })
+        (λ none. (or_else_zero _ _ none).0) get_bad u _ slot prev compared e
+        (ap (ended n) h ∙ ap (λ (x : ℕ). ended x (value_front l (line_a (word image) slot) (line_b (word image) slot) x ++ drop x out)) q)
       where
         ended : ℕ → List ℕ → ReadOnlyResult
-        ended x bytes = record { answer = gives (x ∷ []); out = bytes; compared = keyCompared l image heads next key }
+        ended x bytes = record { answer = gives (x ∷ []); out = bytes; compared = key_compared l image heads next key }
 
-    pub get-not-held : (prev compared : ℕ) → r ≡ Accepted (NotHeld prev) compared
-        → record { answer = absent; out = out; compared = keyCompared l image heads next key } ≡ getResult l image heads next key out
-    unfolding getResult getFault getDone
-    get-not-held prev compared e =
-        result-not-held (getDone l image out (keyCompared l image heads next key))
-        (λ k. record { answer = refused k; out = out; compared = keyCompared l image heads next key })
-        (λ none. (orElse-zero _ _ none).0) get-bad u _ prev compared e refl
+    pub get_not_held : (prev compared : ℕ) → r ≡ Accepted (NotHeld prev) compared
+        → record { answer = absent; out = out; compared = key_compared l image heads next key } ≡ get_result l image heads next key out
+    unfolding get_result get_fault get_done
+    get_not_held prev compared e =
+        result_not_held (get_done l image out (key_compared l image heads next key))
+        (λ k. record { answer = refused k; out = out; compared = key_compared l image heads next key })
+        (λ none. (or_else_zero _ _ none).0) get_bad u _ prev compared e refl

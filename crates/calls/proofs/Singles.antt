@@ -6,60 +6,60 @@ use Prim.Native.Nat.{ℕ, ◌+◌, ◌-◌}
 use native.Mathlib.Numerals.{unary_clauses}
 use native.Mathlib.Omega.{arith}
 use lib.ListN.{length}
-use Rattle.prelude.specs.Refusal.{refuseIf, or_else}
+use Rattle.prelude.specs.Refusal.{refuse_if, or_else}
 use Rattle.prelude.specs.Answer.{Answer, gives, absent, refused}
-use Rattle.prelude.proofs.Refusals.{orElse-none, orElse-row}
-use Rattle.layout.specs.Size.{slotsIn}
-use Rattle.stores.specs.Basket.{basketStores}
-use Rattle.table.specs.Complete.{sizeFieldFor}
-use Rattle.index.specs.Index.{Index, setStart, setLast, link, head_of}
-use Rattle.index.specs.Walk.{search, chainFault}
-use Rattle.index.specs.Change.{insertAt, replaceAt, removeAt, isFound, insertsOf}
+use Rattle.prelude.proofs.Refusals.{or_else_none, or_else_row}
+use Rattle.layout.specs.Size.{slots_in}
+use Rattle.stores.specs.Basket.{basket_stores}
+use Rattle.table.specs.Complete.{size_field_for}
+use Rattle.index.specs.Index.{Index, set_start, set_last, link, head_of}
+use Rattle.index.specs.Walk.{search, chain_fault}
+use Rattle.index.specs.Change.{insert_at, replace_at, remove_at, is_found, inserts_of}
 use Rattle.index.specs.Allocation.{Taken}
-use Rattle.index.specs.Basket.{takeSlot, takeAll, takenSlots, beforeIn, linkBy, linkItem, linkAll, basketIndex}
+use Rattle.index.specs.Basket.{take_slot, all_taken_of, taken_slots, before_in, link_by, link_item, link_all, basket_index}
 use Rattle.index.specs.declared.Action.{Action}
 use Rattle.index.specs.declared.Action.TheVariants.{Write, Remove}
 use Rattle.index.specs.declared.Mode.{Mode}
 use Rattle.index.specs.declared.Mode.TheVariants.{Insert, Replace}
 use Rattle.index.specs.declared.Found.TheVariants.{At, Missing}
-use Rattle.calls.specs.Change.{changed, writeFaultBy, writeLentFault, writeLaterFault, writeDone, removeFaultBy, removeLaterFault, removeDone}
+use Rattle.calls.specs.Change.{changed, write_fault_by, write_lent_fault, write_later_fault, write_done, remove_fault_by, remove_later_fault, remove_done}
 use Rattle.calls.specs.Result.{CallResult}
 use Rattle.calls.specs.BasketItems.{KeyChange}
-use Rattle.calls.specs.BasketRefusals.{keyCountFault, among, anyTwice, listsFault, givenFault, firstFault, valueFault, actionFault, basketLentFault}
-use Rattle.calls.specs.BasketRefusals.{keysFault, insertsBy, removesBy, sumOver, basketFaultBy}
-use Rattle.calls.specs.Basket.{kindBy, valueBy, recordsFor, oldIn, itemsFor, index_after, basketMade}
+use Rattle.calls.specs.BasketRefusals.{key_count_fault, among, any_twice, lists_fault, given_fault, first_fault, value_fault, action_fault, basket_lent_fault}
+use Rattle.calls.specs.BasketRefusals.{keys_fault, inserts_by, removes_by, sum_over, basket_fault_by}
+use Rattle.calls.specs.Basket.{kind_by, value_by, records_for, old_in, items_for, index_after, basket_made}
 
 -- what a single call asks, as a basket does
-abbrev pub oneChange : Action → (key : ℕ) → (value : List ℕ) → List KeyChange
-oneChange action key value = record { action = action; key = key; value = value } ∷ []
+abbrev pub one_change : Action → (key : ℕ) → (value : List ℕ) → List KeyChange
+one_change action key value = record { action = action; key = key; value = value } ∷ []
 
 -- a single call answers its slot and then its version, a basket its version and then its slots
-unfoldable pub slotFirst : Answer → Answer
-slotFirst (gives []) = gives []
-slotFirst (gives (version ∷ slots)) = gives (slots ++ version ∷ [])
-slotFirst absent = absent
-slotFirst (refused number) = refused number
+unfoldable pub slot_first : Answer → Answer
+slot_first (gives []) = gives []
+slot_first (gives (version ∷ slots)) = gives (slots ++ version ∷ [])
+slot_first absent = absent
+slot_first (refused number) = refused number
 
 -- what a single call leaves, by the basket of its key; a basket reports no count
-unfoldable pub asSingle : (compared : ℕ) → CallResult → CallResult
-asSingle compared r =
-    record { answer = slotFirst r.answer; out = []; stores = r.stores; index = r.index; compared = compared }
+unfoldable pub as_single : (compared : ℕ) → CallResult → CallResult
+as_single compared r =
+    record { answer = slot_first r.answer; out = []; stores = r.stores; index = r.index; compared = compared }
 
 -- ---- the refusals
 
 module _ (own : Bool) (l : ℕ) (image : List ℕ) (i : Index) where
-  pub write-fault-one : (mode : Mode) (key : ℕ) (value : List ℕ)
-      → basketFaultBy own l image i (oneChange (Write mode) key value) 16 16 ≡ writeFaultBy own l image i mode key (length value)
-  unfolding basketFaultBy givenFault keyCountFault anyTwice among listsFault basketLentFault firstFault valueFault keysFault actionFault sumOver insertsBy
-      removesBy insertsOf writeFaultBy writeLentFault writeLaterFault or_else refuseIf
-  write-fault-one Insert key value = simp (orElse-none, orElse-row) refl
-  write-fault-one Replace key value = simp (orElse-none, orElse-row) refl
+  pub write_fault_one : (mode : Mode) (key : ℕ) (value : List ℕ)
+      → basket_fault_by own l image i (one_change (Write mode) key value) 16 16 ≡ write_fault_by own l image i mode key (length value)
+  unfolding basket_fault_by given_fault key_count_fault any_twice among lists_fault basket_lent_fault first_fault value_fault keys_fault action_fault sum_over inserts_by
+      removes_by inserts_of write_fault_by write_lent_fault write_later_fault or_else refuse_if
+  write_fault_one Insert key value = simp (or_else_none, or_else_row) refl
+  write_fault_one Replace key value = simp (or_else_none, or_else_row) refl
 
-  pub remove-fault-one : (key old prev compared : ℕ) → search l image i.heads i.next key ≡ At old prev compared
-      → basketFaultBy own l image i (oneChange Remove key []) 16 16 ≡ removeFaultBy own l image i key
-  unfolding basketFaultBy givenFault keyCountFault anyTwice among listsFault basketLentFault firstFault valueFault keysFault actionFault sumOver insertsBy
-      removesBy removeFaultBy removeLaterFault isFound chainFault or_else refuseIf
-  remove-fault-one key old prev compared e = simp (orElse-none, orElse-row, e) refl
+  pub remove_fault_one : (key old prev compared : ℕ) → search l image i.heads i.next key ≡ At old prev compared
+      → basket_fault_by own l image i (one_change Remove key []) 16 16 ≡ remove_fault_by own l image i key
+  unfolding basket_fault_by given_fault key_count_fault any_twice among lists_fault basket_lent_fault first_fault value_fault keys_fault action_fault sum_over inserts_by
+      removes_by remove_fault_by remove_later_fault is_found chain_fault or_else refuse_if
+  remove_fault_one key old prev compared e = simp (or_else_none, or_else_row, e) refl
 
 -- ---- what is left, by the slot s, the first of reuse
 
@@ -73,38 +73,38 @@ module _ (l : ℕ) (image : List ℕ) (i : Index) (key s count : ℕ) where
   -- what the basket of this one key leaves
   abbrev pub made : Action → (value : List ℕ) → CallResult
   made action value =
-      asSingle count
-      (basketMade l image i.state (oneChange action key value) (t ∷ []) (index_after l image i (oneChange action key value) (t ∷ [])))
+      as_single count
+      (basket_made l image i.state (one_change action key value) (t ∷ []) (index_after l image i (one_change action key value) (t ∷ [])))
 
-  is_made : (action : Action) (value : List ℕ) (old : ℕ) → oldIn (search l image i.heads i.next key) ≡ old
-      → changed l image i.state s key (kindBy action) (valueBy action value) (linkBy (slotsIn image) (takeSlot i t) action h old s)
-      (i.state.live + insertsBy action - removesBy action) count
+  is_made : (action : Action) (value : List ℕ) (old : ℕ) → old_in (search l image i.heads i.next key) ≡ old
+      → changed l image i.state s key (kind_by action) (value_by action value) (link_by (slots_in image) (take_slot i t) action h old s)
+      (i.state.live + inserts_by action - removes_by action) count
       ≡ made action value
-  unfolding changed asSingle slotFirst basketMade index_after basketStores recordsFor takenSlots sizeFieldFor basketIndex takeAll linkAll linkItem itemsFor
-      sumOver
+  unfolding changed as_single slot_first basket_made index_after basket_stores records_for taken_slots size_field_for basket_index all_taken_of link_all link_item items_for
+      sum_over
   is_made action value old e = simp (append-nil, unary_clauses, e) refl
 
   -- the slot before the key's place in its chain, by its number
   abbrev pub before : (target : ℕ) → ℕ
-  before target = beforeIn i (slotsIn image) h target
+  before target = before_in i (slots_in image) h target
 
-  pub insert-one : (value : List ℕ) (prev compared : ℕ) → before 0 ≡ prev
-      → writeDone l image i key value s (takeSlot i t) count (Missing prev compared) ≡ made (Write Insert) value
-  unfolding writeDone kindBy valueBy linkBy insertsBy insertsOf removesBy takeSlot link setStart setLast beforeIn
-  insert-one value prev compared p =
-      ap₂ (λ (x live : ℕ). changed l image i.state s key 1 value (insertAt (takeSlot i t) h x s) live count) (sym p) (omega arith)
+  pub insert_one : (value : List ℕ) (prev compared : ℕ) → before 0 ≡ prev
+      → write_done l image i key value s (take_slot i t) count (Missing prev compared) ≡ made (Write Insert) value
+  unfolding write_done kind_by value_by link_by inserts_by inserts_of removes_by take_slot link set_start set_last before_in
+  insert_one value prev compared p =
+      ap₂ (λ (x live : ℕ). changed l image i.state s key 1 value (insert_at (take_slot i t) h x s) live count) (sym p) (omega arith)
       ∙ is_made (Write Insert) value _ refl
 
-  pub replace-one : (value : List ℕ) (old prev compared : ℕ) → search l image i.heads i.next key ≡ At old prev compared → before old ≡ prev
-      → writeDone l image i key value s (takeSlot i t) count (At old prev compared) ≡ made (Write Replace) value
-  unfolding writeDone kindBy valueBy linkBy insertsBy insertsOf removesBy takeSlot link setStart setLast beforeIn oldIn
-  replace-one value old prev compared e p =
-      ap₂ (λ (x live : ℕ). changed l image i.state s key 1 value (replaceAt (takeSlot i t) h x old s) live count) (sym p) (omega arith)
-      ∙ is_made (Write Replace) value old (ap oldIn e)
+  pub replace_one : (value : List ℕ) (old prev compared : ℕ) → search l image i.heads i.next key ≡ At old prev compared → before old ≡ prev
+      → write_done l image i key value s (take_slot i t) count (At old prev compared) ≡ made (Write Replace) value
+  unfolding write_done kind_by value_by link_by inserts_by inserts_of removes_by take_slot link set_start set_last before_in old_in
+  replace_one value old prev compared e p =
+      ap₂ (λ (x live : ℕ). changed l image i.state s key 1 value (replace_at (take_slot i t) h x old s) live count) (sym p) (omega arith)
+      ∙ is_made (Write Replace) value old (ap old_in e)
 
-  pub remove-one : (old prev compared : ℕ) → search l image i.heads i.next key ≡ At old prev compared → before old ≡ prev
-      → removeDone l image i key s (takeSlot i t) count (At old prev compared) ≡ made Remove []
-  unfolding removeDone kindBy valueBy linkBy insertsBy removesBy takeSlot link setStart setLast beforeIn oldIn
-  remove-one old prev compared e p =
-      ap₂ (λ (x live : ℕ). changed l image i.state s key 2 [] (removeAt (takeSlot i t) h x old s) live count) (sym p) (omega arith)
-      ∙ is_made Remove [] old (ap oldIn e)
+  pub remove_one : (old prev compared : ℕ) → search l image i.heads i.next key ≡ At old prev compared → before old ≡ prev
+      → remove_done l image i key s (take_slot i t) count (At old prev compared) ≡ made Remove []
+  unfolding remove_done kind_by value_by link_by inserts_by removes_by take_slot link set_start set_last before_in old_in
+  remove_one old prev compared e p =
+      ap₂ (λ (x live : ℕ). changed l image i.state s key 2 [] (remove_at (take_slot i t) h x old s) live count) (sym p) (omega arith)
+      ∙ is_made Remove [] old (ap old_in e)

@@ -2,7 +2,7 @@
 -- past them are kept".
 use Rattle.std.specs.Prelude.{List, [], ◌∷◌, ◌++◌, ℕ, ◌-◌, length, take, drop, replicate}
 use Rattle.prelude.specs.Answer.{Answer, gives, absent, refused}
-use Rattle.stores.specs.Play.{wordNumbers, values}
+use Rattle.stores.specs.Play.{word_numbers, values}
 use Rattle.calls.specs.declared.BasketAnswer.{BasketAnswer}
 use Rattle.calls.specs.declared.BasketOutcome.{BasketOutcome}
 use Rattle.calls.specs.declared.BasketOutcome.TheVariants.{Stored, Refused}
@@ -18,15 +18,15 @@ pub record BasketBuffers : Type 0 where
   pub index : Index
 
 -- the answer of a call that took these slots
-unfoldable pub basketSays : (slots : List ℕ) → BasketOutcome → Answer
-basketSays slots (Stored version) = gives (version ∷ slots)
-basketSays slots (Refused number) = refused number
+unfoldable pub basket_says : (slots : List ℕ) → BasketOutcome → Answer
+basket_says slots (Stored version) = gives (version ∷ slots)
+basket_says slots (Refused number) = refused number
 
 -- what a call with so many keys and this answer left
-abbrev pub basketEnd : (count : ℕ) → BasketAnswer → (at words heads next : List ℕ) → BasketBuffers
-basketEnd count r at words heads next =
+abbrev pub basket_end : (count : ℕ) → BasketAnswer → (at words heads next : List ℕ) → BasketBuffers
+basket_end count r at words heads next =
     record {
-      answer = basketSays (take count r.slots) r.outcome;
+      answer = basket_says (take count r.slots) r.outcome;
       slots = r.slots;
       at = at;
       words = words;
@@ -34,23 +34,23 @@ basketEnd count r at words heads next =
     }
 
 -- the slots of an answer, and zeros after them up to eight
-unfoldable pub eightSlots : Answer → List ℕ
-eightSlots (gives []) = replicate 8 0
-eightSlots (gives (version ∷ slots)) = slots ++ replicate (8 - length slots) 0
-eightSlots absent = replicate 8 0
-eightSlots (refused number) = replicate 8 0
+unfoldable pub eight_slots : Answer → List ℕ
+eight_slots (gives []) = replicate 8 0
+eight_slots (gives (version ∷ slots)) = slots ++ replicate (8 - length slots) 0
+eight_slots absent = replicate 8 0
+eight_slots (refused number) = replicate 8 0
 
 -- "records past them are kept": what stands at the front of a lent list
-unfoldable pub atFront : {X : Type 0} → (front lent : List X) → List X
-atFront front lent = front ++ drop (length front) lent
+unfoldable pub at_front : {X : Type 0} → (front lent : List X) → List X
+at_front front lent = front ++ drop (length front) lent
 
 -- what a call with this result leaves, lent these two lists
-unfoldable pub buffersAfterLists : (at words : List ℕ) → CallResult → BasketBuffers
-buffersAfterLists at words r =
+unfoldable pub buffers_after_lists : (at words : List ℕ) → CallResult → BasketBuffers
+buffers_after_lists at words r =
     record {
       answer = r.answer;
-      slots = eightSlots r.answer;
-      at = atFront (wordNumbers r.stores) at;
-      words = atFront (values r.stores) words;
+      slots = eight_slots r.answer;
+      at = at_front (word_numbers r.stores) at;
+      words = at_front (values r.stores) words;
       index = r.index;
     }

@@ -1,13 +1,13 @@
 // Basket: up to eight keys are changed, all or none. `l` is the layout.
 ghost use Rattle.std.specs.Prelude.{◌≡◌, length};
-ghost use Rattle.layout.specs.Layouts.{layoutNumber};
+ghost use Rattle.layout.specs.Layouts.{layout_number};
 ghost use Rattle.layout.specs.Record.{Layout};
-ghost use Rattle.layout.specs.Size.{slotsIn};
+ghost use Rattle.layout.specs.Size.{slots_in};
 ghost use Rattle.index.specs.Index.{index_of};
-ghost use Rattle.allocation.specs.Allocation.{allocationChosenBy};
-ghost use Rattle.calls.specs.Basket.{basketDone, basketResult, basketResultBy};
-ghost use Rattle.calls.specs.BasketItems.{changesOf};
-ghost use Rattle.calls.specs.BasketBuffers.{basketEnd, buffersAfterLists};
+ghost use Rattle.allocation.specs.Allocation.{allocation_chosen_by};
+ghost use Rattle.calls.specs.Basket.{basket_done, basket_result, basket_result_by};
+ghost use Rattle.calls.specs.BasketItems.{changes_of};
+ghost use Rattle.calls.specs.BasketBuffers.{basket_end, buffers_after_lists};
 ghost use Rattle.calls.specs.inner.Basket.{BasketReady};
 
 use calls::{BasketAnswer, BasketItem, BasketOutcome};
@@ -38,12 +38,12 @@ fn store_basket(
     own: bool,
 ) -> BasketAnswer
     requires { Layout l
-        × BasketReady own l image.now heads.old next.old (slotsIn image.now) state count items (length at.old) (length words.old)
+        × BasketReady own l image.now heads.old next.old (slots_in image.now) state count items (length at.old) (length words.old)
         (record { fault = 0; olds = olds; slots = slots; prevs = prevs }) }
-    ensures { basketEnd count result at.new words.new heads.new next.new
-        ≡ buffersAfterLists at.old words.old
-        (basketDone l image.now (index_of heads.old next.old state) (changesOf l count items values)
-        (allocationChosenBy own l image.now next.old (slotsIn image.now) state.first state.newest count)) }
+    ensures { basket_end count result at.new words.new heads.new next.new
+        ≡ buffers_after_lists at.old words.old
+        (basket_done l image.now (index_of heads.old next.old state) (changes_of l count items values)
+        (allocation_chosen_by own l image.now next.old (slots_in image.now) state.first state.newest count)) }
 {
     let n = slot_count(image.len());
     let totals = totals_of(items, count);
@@ -89,9 +89,9 @@ pub fn basket_in(
     own: bool,
 ) -> BasketAnswer
     requires { Layout l }
-    ensures result { basketEnd count result at.new words.new heads.new next.new
-        ≡ buffersAfterLists at.old words.old
-        (basketResultBy own l image.now (index_of heads.old next.old state) (changesOf l count items values)
+    ensures result { basket_end count result at.new words.new heads.new next.new
+        ≡ buffers_after_lists at.old words.old
+        (basket_result_by own l image.now (index_of heads.old next.old state) (changes_of l count items values)
         (length at.old) (length words.old)) }
 {
     let p = plan(
@@ -135,10 +135,10 @@ pub fn basket_in_layout(
     words: &mut [u64],
     own: bool,
 ) -> BasketAnswer
-    ensures result { basketEnd count result at.new words.new heads.new next.new
-        ≡ buffersAfterLists at.old words.old
-        (basketResultBy own (layoutNumber wide) image.now (index_of heads.old next.old state)
-        (changesOf (layoutNumber wide) count items values) (length at.old) (length words.old)) }
+    ensures result { basket_end count result at.new words.new heads.new next.new
+        ≡ buffers_after_lists at.old words.old
+        (basket_result_by own (layout_number wide) image.now (index_of heads.old next.old state)
+        (changes_of (layout_number wide) count items values) (length at.old) (length words.old)) }
 {
     basket_in(
         image,
@@ -169,9 +169,9 @@ pub fn basket(
     at: &mut [u32],
     words: &mut [u64],
 ) -> BasketAnswer
-    ensures result { basketEnd count result at.new words.new heads.new next.new
-        ≡ buffersAfterLists at.old words.old
-        (basketResult 1 image.now (index_of heads.old next.old state) (changesOf 1 count items values)
+    ensures result { basket_end count result at.new words.new heads.new next.new
+        ≡ buffers_after_lists at.old words.old
+        (basket_result 1 image.now (index_of heads.old next.old state) (changes_of 1 count items values)
         (length at.old) (length words.old)) }
 {
     basket_in(
@@ -191,9 +191,9 @@ pub fn basket2(
     at: &mut [u32],
     words: &mut [u64],
 ) -> BasketAnswer
-    ensures result { basketEnd count result at.new words.new heads.new next.new
-        ≡ buffersAfterLists at.old words.old
-        (basketResult 2 image.now (index_of heads.old next.old state) (changesOf 2 count items values)
+    ensures result { basket_end count result at.new words.new heads.new next.new
+        ≡ buffers_after_lists at.old words.old
+        (basket_result 2 image.now (index_of heads.old next.old state) (changes_of 2 count items values)
         (length at.old) (length words.old)) }
 {
     basket_in(

@@ -50,20 +50,20 @@ use denote.Triple.Table.{entered, cited}
 use denote.Triple.Walked.{says, Stays, stay_dropped, gave_slice, walk_of, Goes-dropped, Goes-gave_slice, Walks, ends_at, walked, walk_Meets}
 use denote.Exit.{yes}
 use Rattle.index.specs.Index.{index_of}
-use Rattle.mir_steps.proofs.Lent.{lent_at, OwnsMut, number-owned}
-use Rattle.mir_steps.proofs.Locals.{Blocks, block, envOf, Frame, allocates, freed, behind, sinks}
+use Rattle.mir_steps.proofs.Lent.{lent_at, OwnsMut, number_owned}
+use Rattle.mir_steps.proofs.Locals.{Blocks, block, env_of, Frame, allocates, freed, behind, sinks}
 use Rattle.mir_steps.proofs.Statements.{copied, field-of, sets}
 use Rattle.layout.specs.Record.{Layout}
 use Rattle.stores.specs.Store.{Store}
 use Rattle.stores.specs.contracts.Store as T
 use Rattle.stores.proofs.Store.TheLaws as T'
-use Rattle.stores.specs.inner.List.{storesPut}
+use Rattle.stores.specs.inner.List.{stores_put}
 use Rattle.index.specs.declared.State.{State}
 use Rattle.index.specs.contracts.State as S
 use Rattle.index.proofs.State.TheLaws as S'
-use Rattle.calls.specs.Basket.{basketResultBy}
-use Rattle.calls.specs.BasketItems.{changesOf}
-use Rattle.calls.specs.BasketList.{basketListEnd, buffersAfterList}
+use Rattle.calls.specs.Basket.{basket_result_by}
+use Rattle.calls.specs.BasketItems.{changes_of}
+use Rattle.calls.specs.BasketList.{basket_list_end, buffers_after_list}
 use Rattle.calls.specs.inner.Basket.{MadeOf}
 use Rattle.calls.specs.declared.BasketItem.{BasketItem}
 use Rattle.calls.specs.declared.BasketMade.{BasketMade}
@@ -113,8 +113,8 @@ locals =
     (ty_int w64) ∷ []
 
 -- local i, and field k of it
-abbrev held_in : ℕ → Opd
-held_in i = copy (place i [])
+abbrev held-in : ℕ → Opd
+held-in i = copy (place i [])
 
 abbrev part : ℕ → ℕ → Opd
 part i k = copy (place i (field k ∷ []))
@@ -122,18 +122,18 @@ part i k = copy (place i (field k ∷ []))
 -- slice i, of elements τ, is lent on: to k its pointer, to the next local the slice
 abbrev lends : ℕ → ℕ → Ty → Body → Body
 lends i k τ rest =
-    seq (assign (place k []) (addr_of (place i (field 0 ∷ deref τ ∷ [])))) (seq (assign (place (suc k) []) (aggregate (held_in k ∷ part i 1 ∷ []))) rest)
+    seq (assign (place k []) (addr_of (place i (field 0 ∷ deref τ ∷ [])))) (seq (assign (place (suc k) []) (aggregate (held-in k ∷ part i 1 ∷ []))) rest)
 
 -- the array of 128 elements in local i is lent, in the same way
-abbrev lends-array : ℕ → ℕ → Body → Body
-lends-array i k rest = seq (assign (place k []) (addr_of (place i []))) (seq (assign (place (suc k) []) (aggregate (held_in k ∷ int w64 128 ∷ []))) rest)
+abbrev lends_array : ℕ → ℕ → Body → Body
+lends_array i k rest = seq (assign (place k []) (addr_of (place i []))) (seq (assign (place (suc k) []) (aggregate (held-in k ∷ int w64 128 ∷ []))) rest)
 
 -- what is after `basket_made`
-abbrev after-made : Body
-after-made =
+abbrev after_made : Body
+after_made =
     seq (assign (place 10 []) (rv_opd (part 9 2))) (seq (assign (place 11 []) (rv_opd (part 9 3)))
-    (lends 8 18 T'.mir (lends-array 10 20
-    (lends-array 11 22 (seq (call #fill-store-list (held_in 19 ∷ held_in 21 ∷ held_in 23 ∷ part 9 1 ∷ []) (place 17 []))
+    (lends 8 18 T'.mir (lends_array 10 20
+    (lends_array 11 22 (seq (call #fill-store-list (held-in 19 ∷ held-in 21 ∷ held-in 23 ∷ part 9 1 ∷ []) (place 17 []))
     (seq (assign (place 0 []) (rv_opd (part 9 0))) return))))))
 
 abbrev pub function : (l family : ℕ) → Fn
@@ -143,8 +143,8 @@ function l family = record {
   params = 8;
   locals = locals;
   body = lends 2 12 (ty_int w32) (lends 3 14 (ty_int w32) (seq (assign (place 16 []) (rv_opd (part 8 1)))
-      (seq (call #basket-made (held_in 1 ∷ int w64 l ∷ held_in 13 ∷ held_in 15 ∷ held_in 4 ∷ held_in 5 ∷ held_in 6 ∷ held_in 7 ∷ held_in 16 ∷ int w64 family ∷
-      []) (place 9 [])) after-made)));
+      (seq (call #basket-made (held-in 1 ∷ int w64 l ∷ held-in 13 ∷ held-in 15 ∷ held-in 4 ∷ held-in 5 ∷ held-in 6 ∷ held-in 7 ∷ held-in 16 ∷ int w64 family ∷
+      []) (place 9 [])) after_made)));
 }
 
 -- ---- the contract
@@ -154,10 +154,10 @@ clauses 𝓤 l family κs a = record {
   ghost = Unit {0};
   requires = λ _. emp 𝓤;
   ensures = λ _ r e. fact 𝓤 (
-      basketListEnd a.1.1.1.1.0 r e.1.1.1.1.1.1.1.0.now e.1.0.now e.1.1.0.now
-      ≡ buffersAfterList a.1.1.1.1.1.1.1.0.now
-      (basketResultBy (eqb family 1) l a.0.now (index_of a.1.0.now a.1.1.0.now a.1.1.1.0)
-      (changesOf l a.1.1.1.1.0 a.1.1.1.1.1.0 a.1.1.1.1.1.1.0)
+      basket_list_end a.1.1.1.1.0 r e.1.1.1.1.1.1.1.0.now e.1.0.now e.1.1.0.now
+      ≡ buffers_after_list a.1.1.1.1.1.1.1.0.now
+      (basket_result_by (eqb family 1) l a.0.now (index_of a.1.0.now a.1.1.0.now a.1.1.1.0)
+      (changes_of l a.1.1.1.1.0 a.1.1.1.1.1.0 a.1.1.1.1.1.1.0)
       (length a.1.1.1.1.1.1.1.0.now) (length a.1.1.1.1.1.1.1.0.now))
       );
 }
@@ -240,12 +240,12 @@ module _ (l family : ℕ) (layout : Layout l) (family-fits : family < 2 ^ 64) {M
 
     -- ---- `basket_made`
 
-    abbrev made-args : Bor (List ℕ) × (ℕ × (Bor (List ℕ) × (Bor (List ℕ) × (State × (ℕ × (List BasketItem × (List ℕ × (ℕ × (ℕ × Unit {0})))))))))
-    made-args =
+    abbrev made_args : Bor (List ℕ) × (ℕ × (Bor (List ℕ) × (Bor (List ℕ) × (State × (ℕ × (List BasketItem × (List ℕ × (ℕ × (ℕ × Unit {0})))))))))
+    made_args =
         (lent_at u8 b₀ o₀ γ₀ image, (l, (lent_at u32 b₁ o₁ γ₁ heads, (lent_at u32 b₂ o₂ γ₂ next, (st, (n, (items, (values, (length list, (family, tt))))))))))
 
-    abbrev made-vals : List Val × (List Val × Vss)
-    made-vals = (
+    abbrev made_vals : List Val × (List Val × Vss)
+    made_vals = (
       s₀ ∷ [],
       (
         vint w64 l ∷ [],
@@ -257,30 +257,30 @@ module _ (l family : ℕ) (layout : Layout l) (family-fits : family < 2 ^ 64) {M
     )
 
     abbrev to_made : (Made 𝓛 mem run).Ghost
-    to_made = (((κ₀, (κ₁, (κ₂, tt))), (q₀, (q₁, (q₂, tt))), tt, made-args, made-vals), tt)
+    to_made = (((κ₀, (κ₁, (κ₂, tt))), (q₀, (q₁, (q₂, tt))), tt, made_args, made_vals), tt)
 
-    l-fits : l < 2 ^ 64
-    l-fits = omega (arith, layout.high)
+    l_fits : l < 2 ^ 64
+    l_fits = omega (arith, layout.high)
 
-    passes : ent 𝓤 (on_entry 𝓛 made.signature (κ₀, (κ₁, (κ₂, tt))) (q₀, (q₁, (q₂, tt))) made-args made-vals) ((Made 𝓛 mem run).pre to_made)
-    passes = qed 𝓛 (raw (on_entry 𝓛 made.signature (κ₀, (κ₁, (κ₂, tt))) (q₀, (q₁, (q₂, tt))) made-args made-vals) ∷ []) ∵ says ! layout $ done !
+    passes : ent 𝓤 (on_entry 𝓛 made.signature (κ₀, (κ₁, (κ₂, tt))) (q₀, (q₁, (q₂, tt))) made_args made_vals) ((Made 𝓛 mem run).pre to_made)
+    passes = qed 𝓛 (raw (on_entry 𝓛 made.signature (κ₀, (κ₁, (κ₂, tt))) (q₀, (q₁, (q₂, tt))) made_args made_vals) ∷ []) ∵ says ! layout $ done !
 
     abbrev Owned : Item 𝓤
     Owned =
         ‵ (owns (ShrSlice (named 0) κ₀ u8 ∷ MutSlice (named 1) κ₁ u32 ∷ MutSlice (named 2) κ₂ u32 ∷ S.the_row ∷ usize ∷ Array I.the_row 8 ∷ Array u8 640 ∷
         MutSlice (named 3) κ₃ T.the_row ∷ []) a vals)
 
-    goes-made : ent 𝓤 (⋆ 𝓛 (Tokens₄ ∷ Owned ∷ []))
+    goes_made : ent 𝓤 (⋆ 𝓛 (Tokens₄ ∷ Owned ∷ []))
         (⋆ 𝓛 (raw ((Made 𝓛 mem run).pre to_made) ∷ ‵ (OwnsMut T.the_row κ₃ b o γ list (s ∷ [])) ∷ ‵ (flft κ₃ q₃) ∷ []))
-    goes-made =
+    goes_made =
         qed 𝓛 (Tokens₄ ∷ Owned ∷ []) ∵
         -- what the parameters own, one by one, the list's length in its place and the layout after the image
         move ! (1 ∷ []) $ fsplit ! $ move ! (1 ∷ []) $ fsplit ! $ move ! (1 ∷ []) $ fsplit ! $ move ! (1 ∷ []) $ fsplit ! $ move ! (1 ∷ []) $ fsplit ! $ move !
         (1 ∷ []) $ fsplit ! $ move ! (1 ∷ []) $ fsplit ! $ move ! (1 ∷ []) $ fsplit ! $
-        move ! (1 ∷ []) $ number-owned ! w64 family family-fits $ fjoin ! $ number-owned ! w64 (length list) room.0 $ fjoin ! $
+        move ! (1 ∷ []) $ number_owned ! w64 family family-fits $ fjoin ! $ number_owned ! w64 (length list) room.0 $ fjoin ! $
         move ! (2 ∷ 0 ∷ []) $ fjoin ! $ move ! (2 ∷ 0 ∷ []) $ fjoin ! $ move ! (2 ∷ 0 ∷ []) $ fjoin ! $ move ! (2 ∷ 0 ∷ []) $ fjoin ! $ move ! (2 ∷ 0 ∷ []) $
         fjoin ! $ move ! (2 ∷ 0 ∷ []) $ fjoin ! $
-        number-owned ! w64 l l-fits $ fjoin ! $ move ! (2 ∷ 0 ∷ []) $ fjoin ! $
+        number_owned ! w64 l l_fits $ fjoin ! $ move ! (2 ∷ 0 ∷ []) $ fjoin ! $
         -- the tokens, one by one, and those of the image and the index
         move ! (2 ∷ []) $ split ! $ move ! (1 ∷ []) $ split ! $ move ! (1 ∷ []) $ split ! $ move ! (1 ∷ []) $ split ! $
         move ! (2 ∷ 1 ∷ []) $ join ! $ move ! (2 ∷ 0 ∷ []) $ join ! $ move ! (2 ∷ 0 ∷ []) $ join ! $
@@ -290,7 +290,7 @@ module _ (l family : ℕ) (layout : Layout l) (family-fits : family < 2 ^ 64) {M
 
     abbrev Result : BasketMade → List ℕ → List ℕ → Type 0
     Result m hs ns =
-        MadeOf (basketResultBy (eqb family 1) l image (index_of heads next st) (changesOf l n items values) (length list) (length list)) (length list) n m hs ns
+        MadeOf (basket_result_by (eqb family 1) l image (index_of heads next st) (changes_of l n items values) (length list) (length list)) (length list) n m hs ns
 
     module _ (m : BasketMade) (is : Is D.the_row m (LL.vals D.the_type D'.the_laws m)) (hs ns : List ℕ) (made-it : Result m hs ns) where
       abbrev mv : Val
@@ -299,8 +299,8 @@ module _ (l family : ℕ) (layout : Layout l) (family-fits : family < 2 ^ 64) {M
       abbrev av : Val
       av = LL.val B.the_type B'.the_laws m.answer
 
-      is-answer : Is B.the_row m.answer (av ∷ [])
-      is-answer = (LL.owed D.the_type D'.the_laws m _ is).0
+      is_answer : Is B.the_row m.answer (av ∷ [])
+      is_answer = (LL.owed D.the_type D'.the_laws m _ is).0
 
       -- the two arrays, as the struct's machine value has them
       abbrev at : List ℕ
@@ -312,36 +312,36 @@ module _ (l family : ℕ) (layout : Layout l) (family-fits : family < 2 ^ 64) {M
       is_at : Is (Array u32 128) at (array_vals (uint_vals w32) at)
       is_at = (LL.owed D.the_type D'.the_laws m _ is).1.1.0
 
-      is-words : Is (Array u64 128) words (array_vals (uint_vals w64) words)
-      is-words = (LL.owed D.the_type D'.the_laws m _ is).1.1.1.0
+      is_words : Is (Array u64 128) words (array_vals (uint_vals w64) words)
+      is_words = (LL.owed D.the_type D'.the_laws m _ is).1.1.1.0
 
       arrays : Arrays 128 at words m.stored (length list)
       arrays =
           record {
             few = lit< tt;
             is_at = is_at;
-            is-words = is-words;
+            is_words = is_words;
             fits = (LL.owed D.the_type D'.the_laws m _ is).1.0.1;
-            in-room = made-it.in-room;
-            in-arrays
-                = made-it.in-arrays;
+            in_room = made-it.in_room;
+            in_arrays
+                = made-it.in_arrays;
           }
 
-      ends : (zs : List Store) → zs ≡ storesPut at words m.stored list
-          → basketListEnd n m.answer zs hs ns ≡ buffersAfterList list
-          (basketResultBy (eqb family 1) l image (index_of heads next st) (changesOf l n items values) (length list) (length list))
+      ends : (zs : List Store) → zs ≡ stores_put at words m.stored list
+          → basket_list_end n m.answer zs hs ns ≡ buffers_after_list list
+          (basket_result_by (eqb family 1) l image (index_of heads next st) (changes_of l n items values) (length list) (length list))
       ends zs e =
-          ap (λ (l : List Store). basketListEnd n m.answer l hs ns)
-          (e ∙ ap₂ (λ (x y : List ℕ). storesPut x y m.stored list) (map-id m.at) (map-id m.words))
-          ∙ in_list _ _ n m hs ns made-it (omega (arith, made-it.in-arrays, ap length (map-id m.at), is_at.1.0.1))
-          (omega (arith, made-it.in-arrays, ap length (map-id m.words), is-words.1.0.1)) list
+          ap (λ (l : List Store). basket_list_end n m.answer l hs ns)
+          (e ∙ ap₂ (λ (x y : List ℕ). stores_put x y m.stored list) (map-id m.at) (map-id m.words))
+          ∙ in_list _ _ n m hs ns made-it (omega (arith, made-it.in_arrays, ap length (map-id m.at), is_at.1.0.1))
+          (omega (arith, made-it.in_arrays, ap length (map-id m.words), is_words.1.0.1)) list
 
       -- ---- what is had at exit
 
       abbrev Left : List Store → List (Item 𝓤)
       Left zs = Tokens₃ ∷ ‵ (finally u32 γ₂ ns) ∷ ‵ (finally u32 γ₁ hs) ∷ ‵ (flft κ₃ q₃) ∷ ‵ (finally T.the_row γ zs) ∷ []
 
-      exits : (zs : List Store) → zs ≡ storesPut at words m.stored list → length hs ≡ length heads → length ns ≡ length next → length zs ≡ length list
+      exits : (zs : List Store) → zs ≡ stores_put at words m.stored list → length hs ≡ length heads → length ns ≡ length next → length zs ≡ length list
           → ent 𝓤 (⋆ 𝓛 (Left zs)) (Post av)
       exits zs e eh en ez =
           qed 𝓛 (Left zs) ∵
@@ -352,7 +352,7 @@ module _ (l family : ℕ) (layout : Layout l) (family-fits : family < 2 ^ 64) {M
           join ! $ move ! (1 ∷ 0 ∷ []) $ join ! $ frame ! $
           nothing ! $ move ! (3 ∷ 0 ∷ []) $ fjoin ! $ nothing ! $ fjoin ! $ nothing ! $ fjoin ! $ nothing ! $ fjoin ! $ nothing ! $ fjoin ! $
           move ! (1 ∷ 0 ∷ []) $ fjoin ! $ move ! (1 ∷ 0 ∷ []) $ fjoin ! $ nothing ! $ fjoin ! $
-          owned ! B.the_row (Is B.the_row) (LL.makes B.the_type B'.the_plain 𝓛) m.answer _ is-answer $ move ! (1 ∷ 0 ∷ []) $ done !
+          owned ! B.the_row (Is B.the_row) (LL.makes B.the_type B'.the_plain 𝓛) m.answer _ is_answer $ move ! (1 ∷ 0 ∷ []) $ done !
 
       module _ (C : Calls 𝓤 H) (Λ : Loops 𝓤 H) (fm : FmC 𝓤 H 𝓛.laws C) (known-put : Triple 𝓤 (C #fill-store-list) (Put 𝓛 mem run)) (bs : Blocks locals)
         where
@@ -364,10 +364,10 @@ module _ (l family : ℕ) (layout : Layout l) (family-fits : family < 2 ^ 64) {M
           rest : length hs ≡ length heads → length ns ≡ length next
               → Sq 𝓛 (Frame 𝓤 locals bs held
               ++ (Tokens₃ ∷ ‵ (finally u32 γ₂ ns) ∷ ‵ (finally u32 γ₁ hs) ∷ (‵ (OwnsMut T.the_row κ₃ b o γ list (s ∷ [])) ⊛ ‵ (flft κ₃ q₃)) ∷ []))
-              (runs C Λ (envOf 𝓤 H locals bs) after-made (at_ret (envOf 𝓤 H locals bs) Post))
+              (runs C Λ (env_of 𝓤 H locals bs) after_made (at_ret (env_of 𝓤 H locals bs) Post))
           rest eh en =
               sets ! 20 (of_opd ! (field-of ! 18 2 refl refl refl)) refl ((Array-Lawful 𝓛 u32 (uint_Lawful 𝓛 w32) 128).typed at _ is_at).0 $
-              sets ! 22 (of_opd ! (field-of ! 18 3 refl refl refl)) refl ((Array-Lawful 𝓛 u64 (uint_Lawful 𝓛 w64) 128).typed words _ is-words).0 $
+              sets ! 22 (of_opd ! (field-of ! 18 3 refl refl refl)) refl ((Array-Lawful 𝓛 u64 (uint_Lawful 𝓛 w64) 128).typed words _ is_words).0 $
               sets ! 36 (addr ! (from ! (fld ! refl (hop ! (look_in ! 16 (sub ! 0 refl (whole !))) (stop !))))) refl (tt, tt) $
               sets ! 38 (agg ! (and_then ! (copied ! 36 refl) (and_then ! (field-of ! 16 1 refl refl refl) (no_more !)))) refl
               (tt, (tt, (record { fits = room.0 }, tt))) $
@@ -384,7 +384,7 @@ module _ (l family : ℕ) (layout : Layout l) (family-fits : family < 2 ^ 64) {M
               land ! (from ! (stop !)) (init ! 36 refl unit-typed.0) $
               -- the arrays stand among the locals again
               move ! (2 ∷ 3 ∷ []) $ behind ! 2 $ sinks ! 21 $ sinks ! 22 $
-              sets ! 0 (of_opd ! (field-of ! 18 0 refl refl refl)) refl ((LL.lawful B.the_type B'.the_laws 𝓛).typed m.answer _ is-answer).0 $
+              sets ! 0 (of_opd ! (field-of ! 18 0 refl refl refl)) refl ((LL.lawful B.the_type B'.the_laws 𝓛).typed m.answer _ is_answer).0 $
               returns ! (look ! 0 refl) $
               forget ! 0 refl $ forget ! 2 refl $ forget ! 4 refl $ forget ! 6 refl $ forget ! 8 refl $ forget ! 10 refl $ forget ! 12 refl $ forget ! 14 refl $
               forget ! 16 refl $ forget ! 18 refl $ forget ! 20 refl $ forget ! 22 refl $ forget ! 24 refl $ forget ! 26 refl $ forget ! 28 refl $
@@ -413,17 +413,17 @@ module _ (l family : ℕ) (layout : Layout l) (family-fits : family < 2 ^ 64) {M
           (tt, (tt, (record { fits = room₂.0 }, tt))) $
           sets ! 32 (of_opd ! (field-of ! 16 1 refl refl refl)) refl (tt, record { fits = room.0 }) $
           -- `basket_made`
-          move ! (48 ∷ 49 ∷ []) $ use2 𝓛 (raw ((Made 𝓛 mem run).pre to_made) ⊛ (‵ (OwnsMut T.the_row κ₃ b o γ list (s ∷ [])) ⊛ ‵ (flft κ₃ q₃))) goes-made $
+          move ! (48 ∷ 49 ∷ []) $ use2 𝓛 (raw ((Made 𝓛 mem run).pre to_made) ⊛ (‵ (OwnsMut T.the_row κ₃ b o γ list (s ∷ [])) ⊛ ‵ (flft κ₃ q₃))) goes_made $
           split ! $
           calls_at ! fm (Made 𝓛 mem run) known-made to_made
-          (and_then ! (copied ! 4 refl) (and_then ! (lit ! (lt→ltb l (2 ^ 64) l-fits))
+          (and_then ! (copied ! 4 refl) (and_then ! (lit ! (lt→ltb l (2 ^ 64) l_fits))
           (and_then ! (copied ! 28 refl) (and_then ! (copied ! 32 refl) (and_then ! (copied ! 10 refl) (and_then ! (copied ! 12 refl)
           (and_then ! (copied ! 14 refl)
           (and_then ! (copied ! 16 refl) (and_then ! (copied ! 34 refl) (and_then ! (lit ! (lt→ltb family (2 ^ 64) family-fits)) (no_more !))))))))))) (λ w.
           use1 𝓛 (later (some (λ (m : BasketMade). (Tokens₃ ⊛ ‵ ((D.the_row).own_val m (w ∷ []))) ⊛ raw
-          (ensured 𝓛 made.ended (made.clauses 𝓛 mem run) (κ₀, (κ₁, (κ₂, tt))) made-args tt m)))) (id⊢ 𝓤 _) $ await ! tt $ pick ! (λ m.
+          (ensured 𝓛 made.ended (made.clauses 𝓛 mem run) (κ₀, (κ₁, (κ₂, tt))) made_args tt m)))) (id⊢ 𝓤 _) $ await ! tt $ pick ! (λ m.
           split ! $ move ! (1 ∷ []) $ use1 𝓛
-          (some (λ (ws : Lasts made.ended (κ₀, (κ₁, (κ₂, tt))) made-args). ‵ (lasts made.ended (κ₀, (κ₁, (κ₂, tt))) made-args ws) ⊛ raw
+          (some (λ (ws : Lasts made.ended (κ₀, (κ₁, (κ₂, tt))) made_args). ‵ (lasts made.ended (κ₀, (κ₁, (κ₂, tt))) made_args ws) ⊛ raw
           (fact 𝓤 (Result m ws.1.1.0 ws.1.1.1.0)))) (id⊢ 𝓤 _) $ pick ! (λ ws.
           split ! $ move ! (1 ∷ []) $ heard ! (Result m ws.1.1.0 ws.1.1.1.0) (λ made-it.
           -- [what is said of the last values; the tokens and m; the list and its token; the locals]
@@ -514,13 +514,13 @@ module _ (l family : ℕ) (layout : Layout l) (family-fits : family < 2 ^ 64) {M
   )
       (clauses 𝓤 l family) (WpFn 𝓤 H 𝓣.C 𝓣.Λ (function l family)) (WpFn-mono 𝓤 H 𝓛.laws 𝓣 (function l family)) walks
 
-pub basket-listed : (l family : ℕ) → Layout l → family < 2 ^ 64
+pub basket_listed : (l family : ℕ) → Layout l → family < 2 ^ 64
     → {M : Type 1} {𝓤 : Ura M} (𝓛 : Logic 𝓤) (𝓜 : Model 𝓤 𝓛.H) (𝓡 : Running 𝓤 𝓛.H 𝓜) (env : Env) (name : Name)
     → Closed 𝓤 𝓛.H (tables 𝓤 𝓛.H 𝓜 𝓡 env).C (tables 𝓤 𝓛.H 𝓜 𝓡 env).Λ name (function l family) → env #basket-made ≡ made-def.routine
     → env #fill-store-list ≡ put-def.routine
     → Meets 𝓛 f.signature (𝓡.run (env name)) (closing 𝓛 f.ended (clauses 𝓤 l family))
 unfolding tables_of
-basket-listed l family layout family-fits {𝓤 = 𝓤} 𝓛 𝓜 𝓡 env name unfolded is_made is-put =
+basket_listed l family layout family-fits {𝓤 = 𝓤} 𝓛 𝓜 𝓡 env name unfolded is_made is-put =
     entered 𝓤 𝓛.H (triple_of 𝓛 f.signature (closing 𝓛 f.ended (clauses 𝓤 l family))) (tables 𝓤 𝓛.H 𝓜 𝓡 env).C (tables 𝓤 𝓛.H 𝓜 𝓡 env).Λ name
     (function l family) unfolded
     (meets l family layout family-fits 𝓛 𝓜.mem 𝓡.run (tables_of 𝓤 𝓛.H 𝓜 (tables 𝓤 𝓛.H 𝓜 𝓡 env))

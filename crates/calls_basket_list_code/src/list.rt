@@ -1,9 +1,9 @@
 // A basket that fills a lent list of records, in either layout.
 ghost use Rattle.std.specs.Prelude.{◌≡◌, true, length};
 ghost use Rattle.index.specs.Index.{index_of};
-ghost use Rattle.calls.specs.Basket.{basketResult, basketResultBy};
-ghost use Rattle.calls.specs.BasketItems.{changesOf};
-ghost use Rattle.calls.specs.BasketList.{basketListEnd, buffersAfterList};
+ghost use Rattle.calls.specs.Basket.{basket_result, basket_result_by};
+ghost use Rattle.calls.specs.BasketItems.{changes_of};
+ghost use Rattle.calls.specs.BasketList.{basket_list_end, buffers_after_list};
 
 use crate::made::basket_made;
 use calls::{BasketAnswer, BasketItem};
@@ -24,9 +24,9 @@ pub fn basket_list(
     values: [u8; 640],
     list: &mut [Store],
 ) -> BasketAnswer
-    ensures result { basketListEnd count result list.new heads.new next.new
-        ≡ buffersAfterList list.old
-        (basketResult 1 image.now (index_of heads.old next.old state) (changesOf 1 count items values)
+    ensures result { basket_list_end count result list.new heads.new next.new
+        ≡ buffers_after_list list.old
+        (basket_result 1 image.now (index_of heads.old next.old state) (changes_of 1 count items values)
         (length list.old) (length list.old)) }
 {
     let made = basket_made(
@@ -58,9 +58,9 @@ pub fn basket_list2(
     values: [u8; 640],
     list: &mut [Store],
 ) -> BasketAnswer
-    ensures result { basketListEnd count result list.new heads.new next.new
-        ≡ buffersAfterList list.old
-        (basketResult 2 image.now (index_of heads.old next.old state) (changesOf 2 count items values)
+    ensures result { basket_list_end count result list.new heads.new next.new
+        ≡ buffers_after_list list.old
+        (basket_result 2 image.now (index_of heads.old next.old state) (changes_of 2 count items values)
         (length list.old) (length list.old)) }
 {
     let made = basket_made(
@@ -93,9 +93,9 @@ pub fn own_basket_list(
     values: [u8; 640],
     list: &mut [Store],
 ) -> BasketAnswer
-    ensures result { basketListEnd count result list.new heads.new next.new
-        ≡ buffersAfterList list.old
-        (basketResultBy true 1 image.now (index_of heads.old next.old state) (changesOf 1 count items values)
+    ensures result { basket_list_end count result list.new heads.new next.new
+        ≡ buffers_after_list list.old
+        (basket_result_by true 1 image.now (index_of heads.old next.old state) (changes_of 1 count items values)
         (length list.old) (length list.old)) }
 {
     let made = basket_made(
@@ -127,9 +127,9 @@ pub fn own_basket_list2(
     values: [u8; 640],
     list: &mut [Store],
 ) -> BasketAnswer
-    ensures result { basketListEnd count result list.new heads.new next.new
-        ≡ buffersAfterList list.old
-        (basketResultBy true 2 image.now (index_of heads.old next.old state) (changesOf 2 count items values)
+    ensures result { basket_list_end count result list.new heads.new next.new
+        ≡ buffers_after_list list.old
+        (basket_result_by true 2 image.now (index_of heads.old next.old state) (changes_of 2 count items values)
         (length list.old) (length list.old)) }
 {
     let made = basket_made(

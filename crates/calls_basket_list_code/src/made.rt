@@ -2,9 +2,9 @@
 ghost use Rattle.std.specs.Prelude.{◌≡◌, ◌≤◌, eqb};
 ghost use Rattle.layout.specs.Record.{Layout};
 ghost use Rattle.index.specs.Index.{index_of};
-ghost use Rattle.calls.specs.Basket.{basketResultBy};
-ghost use Rattle.calls.specs.BasketItems.{changesOf};
-ghost use Rattle.calls.specs.inner.Basket.{basketStoreCount, MadeOf};
+ghost use Rattle.calls.specs.Basket.{basket_result_by};
+ghost use Rattle.calls.specs.BasketItems.{changes_of};
+ghost use Rattle.calls.specs.inner.Basket.{basket_store_count, MadeOf};
 
 use calls::{BasketItem, BasketMade, BasketOutcome};
 use calls_basket_code::basket::basket_in;
@@ -13,7 +13,7 @@ use words_code::lesser;
 
 // How many stores are handed out.
 fn basket_store_count(outcome: BasketOutcome, count: usize) -> usize
-    ensures { (result ≡ basketStoreCount outcome count) × (result ≤ 128) }
+    ensures { (result ≡ basket_store_count outcome count) × (result ≤ 128) }
 {
     if 8 < count {
         return 0;
@@ -39,7 +39,7 @@ pub fn basket_made(
 ) -> BasketMade
     requires { Layout l }
     ensures result { MadeOf
-        (basketResultBy (eqb family 1) l image.now (index_of heads.old next.old state) (changesOf l count items values)
+        (basket_result_by (eqb family 1) l image.now (index_of heads.old next.old state) (changes_of l count items values)
         room room)
         room count result heads.new next.new }
 {

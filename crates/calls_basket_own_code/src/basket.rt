@@ -1,9 +1,9 @@
 // Basket for the owner of an index.
 ghost use Rattle.std.specs.Prelude.{◌≡◌, length, true};
 ghost use Rattle.index.specs.Index.{index_of};
-ghost use Rattle.calls.specs.Basket.{basketResultBy};
-ghost use Rattle.calls.specs.BasketItems.{changesOf};
-ghost use Rattle.calls.specs.BasketBuffers.{basketEnd, buffersAfterLists};
+ghost use Rattle.calls.specs.Basket.{basket_result_by};
+ghost use Rattle.calls.specs.BasketItems.{changes_of};
+ghost use Rattle.calls.specs.BasketBuffers.{basket_end, buffers_after_lists};
 
 use calls::{BasketAnswer, BasketItem};
 use calls_basket_code::basket::basket_in;
@@ -22,9 +22,9 @@ pub fn own_basket(
     at: &mut [u32],
     words: &mut [u64],
 ) -> BasketAnswer
-    ensures result { basketEnd count result at.new words.new heads.new next.new
-        ≡ buffersAfterLists at.old words.old
-        (basketResultBy true 1 image.now (index_of heads.old next.old state) (changesOf 1 count items values)
+    ensures result { basket_end count result at.new words.new heads.new next.new
+        ≡ buffers_after_lists at.old words.old
+        (basket_result_by true 1 image.now (index_of heads.old next.old state) (changes_of 1 count items values)
         (length at.old) (length words.old)) }
 {
     basket_in(
@@ -44,9 +44,9 @@ pub fn own_basket2(
     at: &mut [u32],
     words: &mut [u64],
 ) -> BasketAnswer
-    ensures result { basketEnd count result at.new words.new heads.new next.new
-        ≡ buffersAfterLists at.old words.old
-        (basketResultBy true 2 image.now (index_of heads.old next.old state) (changesOf 2 count items values)
+    ensures result { basket_end count result at.new words.new heads.new next.new
+        ≡ buffers_after_lists at.old words.old
+        (basket_result_by true 2 image.now (index_of heads.old next.old state) (changes_of 2 count items values)
         (length at.old) (length words.old)) }
 {
     basket_in(

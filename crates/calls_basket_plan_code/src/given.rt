@@ -1,14 +1,14 @@
 // The refusals of a basket by what is given: its count, its keys and the lengths of the lent lists. `l` is the layout.
 ghost use Rattle.std.specs.Prelude.{◌≡◌, List, ℕ, ◌-◌, ◌≤◌, eqb};
-ghost use Rattle.layout.specs.Record.{keyWith};
-ghost use Rattle.calls.specs.BasketItems.{highIn, itemKey, changesFrom, changesOf};
-ghost use Rattle.calls.specs.BasketRefusals.{among, anyTwice, keyCountFault, listsFault, givenFault};
+ghost use Rattle.layout.specs.Record.{key_with};
+ghost use Rattle.calls.specs.BasketItems.{high_in, item_key, changes_from, changes_of};
+ghost use Rattle.calls.specs.BasketRefusals.{among, any_twice, key_count_fault, lists_fault, given_fault};
 
 use calls::BasketItem;
 
 // The high word of an item's key: layout 1 has none.
 pub fn high_in(l: usize, high: u64) -> u64
-    ensures result { result ≡ highIn l high }
+    ensures result { result ≡ high_in l high }
 {
     if l == 1 {
         return 0;
@@ -18,7 +18,7 @@ pub fn high_in(l: usize, high: u64) -> u64
 
 // Has the item this key?
 fn item_has_key(l: usize, item: BasketItem, low: u64, high: u64) -> bool
-    ensures { result ≡ eqb (itemKey l item) (keyWith low high) }
+    ensures { result ≡ eqb (item_key l item) (key_with low high) }
 {
     if item.low != low {
         return false;
@@ -36,7 +36,7 @@ fn is_among(
     high: u64,
 ) -> bool
     requires { count ≤ 8 }
-    ensures { (values : List ℕ) → result ≡ among (keyWith low high) (changesFrom l items values from (count - from)) }
+    ensures { (values : List ℕ) → result ≡ among (key_with low high) (changes_from l items values from (count - from)) }
 {
     let mut j = from;
     while j < count {
@@ -52,7 +52,7 @@ fn is_among(
 // Does a key come twice?
 fn any_twice(l: usize, items: [BasketItem; 8], count: usize) -> bool
     requires { count ≤ 8 }
-    ensures { (values : List ℕ) → result ≡ anyTwice (changesOf l count items values) }
+    ensures { (values : List ℕ) → result ≡ any_twice (changes_of l count items values) }
 {
     let mut i = 0;
     while i < count {
@@ -68,7 +68,7 @@ fn any_twice(l: usize, items: [BasketItem; 8], count: usize) -> bool
 
 // 26 by the count of keys, else 0.
 fn key_count_fault(count: usize) -> u32
-    ensures { result ≡ keyCountFault count }
+    ensures { result ≡ key_count_fault count }
 {
     if count == 0 {
         return 26;
@@ -82,7 +82,7 @@ fn key_count_fault(count: usize) -> u32
 // 13 by the lengths of the two lent lists, else 0.
 fn lists_fault(count: usize, at: usize, words: usize) -> u32
     requires { count ≤ 8 }
-    ensures { result ≡ listsFault count at words }
+    ensures { result ≡ lists_fault count at words }
 {
     if at < 16 * count {
         return 13;
@@ -95,7 +95,7 @@ fn lists_fault(count: usize, at: usize, words: usize) -> u32
 
 // 26, 27 or 13, else 0.
 pub fn given_fault(l: usize, count: usize, items: [BasketItem; 8], at: usize, words: usize) -> u32
-    ensures result { (values : List ℕ) → result ≡ givenFault (changesOf l count items values) at words }
+    ensures result { (values : List ℕ) → result ≡ given_fault (changes_of l count items values) at words }
 {
     let number = key_count_fault(count);
     if number != 0 {

@@ -3,8 +3,8 @@ ghost use Rattle.std.specs.Prelude.{◌≡◌, not, ◌≤◌, eqb};
 ghost use Rattle.layout.specs.Record.{Layout};
 ghost use Rattle.layout.specs.inner.Sized.{Sized};
 ghost use Rattle.index.specs.Walk.{search};
-ghost use Rattle.calls.specs.Basket.{oldIn};
-ghost use Rattle.calls.specs.BasketRefusals.{actionFault};
+ghost use Rattle.calls.specs.Basket.{old_in};
+ghost use Rattle.calls.specs.BasketRefusals.{action_fault};
 ghost use Rattle.calls.specs.inner.Basket.{OldsOf, ActionsFault};
 
 use crate::given::high_in;
@@ -15,7 +15,7 @@ use index_read_code::search::find_key;
 
 // The slot that holds the key, 0 for none.
 fn old_in(found: Found) -> u32
-    ensures { result ≡ oldIn found }
+    ensures { result ≡ old_in found }
 {
     match found {
         Found::At {
@@ -63,7 +63,7 @@ pub fn find_olds(
 // 20 for an insert of a held key, 21 for a replace or a remove of one that is not held, else 0; old is the slot that
 // holds it, 0 for none.
 fn action_fault(action: Action, old: u32) -> u32
-    ensures { result ≡ actionFault action (not (eqb old 0)) }
+    ensures { result ≡ action_fault action (not (eqb old 0)) }
 {
     match action {
         Action::Write(mode) => key_fault(mode, old != 0),

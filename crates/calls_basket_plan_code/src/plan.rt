@@ -1,7 +1,7 @@
 // What a basket reads before it writes. `l` is the layout.
 ghost use Rattle.std.specs.Prelude.{◌≡◌, ◌≤◌, ◌<◌};
 ghost use Rattle.layout.specs.Record.{Layout};
-ghost use Rattle.layout.specs.Size.{slotsIn};
+ghost use Rattle.layout.specs.Size.{slots_in};
 ghost use Rattle.layout.specs.inner.Sized.{Sized};
 ghost use Rattle.calls.specs.inner.Basket.{KeysPlanned, Planned};
 
@@ -86,7 +86,7 @@ pub fn plan(
     own: bool,
 ) -> Plan
     requires { Layout l }
-    ensures result { Planned own l image.now heads.now next.now (slotsIn image.now) state count
+    ensures result { Planned own l image.now heads.now next.now (slots_in image.now) state count
         items at words result }
 {
     let given = given_fault(l, count, items, at, words);

@@ -1,8 +1,8 @@
 // The refusals of a basket by what is lent, and by the lengths of its values. `l` is the layout.
 ghost use Rattle.std.specs.Prelude.{◌≡◌, List, ℕ, ◌≤◌, length};
 ghost use Rattle.layout.specs.Record.{Layout};
-ghost use Rattle.calls.specs.BasketRefusals.{valueFault, firstFault, basketLentFault};
-ghost use Rattle.calls.specs.BasketItems.{changesOf};
+ghost use Rattle.calls.specs.BasketRefusals.{value_fault, first_fault, basket_lent_fault};
+ghost use Rattle.calls.specs.BasketItems.{changes_of};
 
 use calls::BasketItem;
 use index::Action;
@@ -12,7 +12,7 @@ use layout_fields_code::fields::value_limit;
 // 10 by the length of a value, else 0; a remove has none.
 fn value_size_fault(l: usize, action: Action, size: usize) -> u32
     requires { Layout l }
-    ensures { result ≡ valueFault l action size }
+    ensures { result ≡ value_fault l action size }
 {
     match action {
         Action::Write(_) => {
@@ -28,7 +28,7 @@ fn value_size_fault(l: usize, action: Action, size: usize) -> u32
 // 10 by the first value that is too long, else 0.
 fn sizes_fault(l: usize, items: [BasketItem; 8], count: usize) -> u32
     requires { Layout l × (count ≤ 8) }
-    ensures { (values : List ℕ) → result ≡ firstFault (λ c. valueFault l c.action (length c.value)) (changesOf l count items values) }
+    ensures { (values : List ℕ) → result ≡ first_fault (λ c. value_fault l c.action (length c.value)) (changes_of l count items values) }
 {
     let mut i = 0;
     while i < count {
@@ -53,7 +53,7 @@ pub fn basket_lent_fault(
     items: [BasketItem; 8],
 ) -> u32
     requires { Layout l × (count ≤ 8) }
-    ensures result { (values : List ℕ) → result ≡ basketLentFault l image.now heads next (changesOf l count items values) }
+    ensures result { (values : List ℕ) → result ≡ basket_lent_fault l image.now heads next (changes_of l count items values) }
 {
     let lent = lent_fault(image, l, heads, next);
     if lent != 0 {

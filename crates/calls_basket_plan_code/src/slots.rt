@@ -1,6 +1,6 @@
 // The slots that a basket takes, and the refusals by them, by the live count and by the next version.
 ghost use Rattle.std.specs.Prelude.{◌≤◌, ◌<◌};
-ghost use Rattle.allocation.specs.Allocation.{allocationBy, allocationChosenBy};
+ghost use Rattle.allocation.specs.Allocation.{allocation_by, allocation_chosen_by};
 ghost use Rattle.allocation.specs.inner.Takeable.{Walkable};
 ghost use Rattle.calls.specs.inner.Basket.{StoreChoice};
 
@@ -25,8 +25,8 @@ pub fn choose_slots(
     own: bool,
 ) -> Choice
     requires { Walkable image.now next.now l n × (0 < wanted) × (wanted ≤ 8) }
-    ensures result { StoreChoice (allocationBy own l image.now next.now n state.first state.newest wanted)
-        (allocationChosenBy own l image.now next.now n state.first state.newest wanted) n state wanted inserts removes result }
+    ensures result { StoreChoice (allocation_by own l image.now next.now n state.first state.newest wanted)
+        (allocation_chosen_by own l image.now next.now n state.first state.newest wanted) n state wanted inserts removes result }
 {
     let ends = ends_fault(n as u32, state.first, state.last);
     if ends != 0 {

@@ -1,6 +1,6 @@
 // How many keys a basket inserts and how many it removes.
 ghost use Rattle.std.specs.Prelude.{◌≡◌, ℕ, ◌≤◌};
-ghost use Rattle.calls.specs.BasketRefusals.{insertsBy, removesBy};
+ghost use Rattle.calls.specs.BasketRefusals.{inserts_by, removes_by};
 ghost use Rattle.calls.specs.inner.Basket.{TotalsOf};
 
 use calls::{BasketItem, Totals};
@@ -9,7 +9,7 @@ use index_read_code::fault::inserts_of;
 
 // 1 for an insert, else 0.
 fn inserts_by(action: Action) -> u32
-    ensures { result ≡ insertsBy action }
+    ensures { result ≡ inserts_by action }
 {
     match action {
         Action::Write(mode) => inserts_of(mode),
@@ -19,7 +19,7 @@ fn inserts_by(action: Action) -> u32
 
 // 1 for a remove, else 0.
 fn removes_by(action: Action) -> u32
-    ensures { result ≡ removesBy action }
+    ensures { result ≡ removes_by action }
 {
     match action {
         Action::Write(_) => 0,

@@ -1,9 +1,9 @@
 // A basket's changes of the index.
 ghost use Rattle.std.specs.Prelude.{◌≡◌, ℕ, length};
 ghost use Rattle.index.specs.Index.{index_of};
-ghost use Rattle.index.specs.Basket.{linkAll, basketIndex};
-ghost use Rattle.index.specs.inner.Basket.{takensFrom, TakensInside};
-ghost use Rattle.calls.specs.inner.Basket.{itemsFrom, ItemsInside};
+ghost use Rattle.index.specs.Basket.{link_all, basket_index};
+ghost use Rattle.index.specs.inner.Basket.{takens_from, TakensInside};
+ghost use Rattle.calls.specs.inner.Basket.{items_from, ItemsInside};
 
 use calls::BasketItem;
 use index::State;
@@ -23,7 +23,7 @@ fn link_all(
 ) -> State
     requires { ItemsInside n (length heads.old) (length next.old) state.last count olds slots }
     ensures { (l : ℕ) → index_of heads.new next.new result
-        ≡ linkAll n (index_of heads.old next.old state) (itemsFrom l (length heads.old) items olds slots 0 count) }
+        ≡ link_all n (index_of heads.old next.old state) (items_from l (length heads.old) items olds slots 0 count) }
 {
     let mut rest = state;
     let mut j = 0;
@@ -51,8 +51,8 @@ pub fn change_index(
 ) -> State
     requires { TakensInside slots prevs count (length next.old) × ItemsInside n (length heads.old) (length next.old) state.last count olds slots }
     ensures result { (l : ℕ) → index_of heads.new next.new result
-        ≡ basketIndex n (index_of heads.old next.old state) (takensFrom slots prevs 0 count)
-        (itemsFrom l (length heads.old) items olds slots 0 count) }
+        ≡ basket_index n (index_of heads.old next.old state) (takens_from slots prevs 0 count)
+        (items_from l (length heads.old) items olds slots 0 count) }
 {
     let rest = take_all(next, state, slots, prevs, count);
     link_all(heads, next, n, rest, count, items, olds, slots)

@@ -1,12 +1,12 @@
 // The stores of a basket, sixteen for each key. `l` is the layout.
 ghost use Rattle.std.specs.Prelude.{◌≡◌, length};
 ghost use Rattle.words.specs.Word.{word};
-ghost use Rattle.stores.specs.Basket.{basketStores};
-ghost use Rattle.stores.specs.Play.{wordNumbers, values as values_of};
-ghost use Rattle.table.specs.Complete.{sizeFieldFor};
-ghost use Rattle.calls.specs.Basket.{kindBy};
-ghost use Rattle.calls.specs.BasketBuffers.{atFront};
-ghost use Rattle.calls.specs.inner.Basket.{sizeBy, recordsFrom, StoresInside};
+ghost use Rattle.stores.specs.Basket.{basket_stores};
+ghost use Rattle.stores.specs.Play.{word_numbers, values as values_of};
+ghost use Rattle.table.specs.Complete.{size_field_for};
+ghost use Rattle.calls.specs.Basket.{kind_by};
+ghost use Rattle.calls.specs.BasketBuffers.{at_front};
+ghost use Rattle.calls.specs.inner.Basket.{size_by, records_from, StoresInside};
 
 use calls::BasketItem;
 use calls_basket_plan_code::given::high_in;
@@ -15,7 +15,7 @@ use stores_record_code::record::record_stores_at;
 
 // The kind of a key's record: 1 for a put, 2 for a remove.
 fn kind_by(action: Action) -> u64
-    ensures { result ≡ kindBy action }
+    ensures { result ≡ kind_by action }
 {
     match action {
         Action::Write(_) => 1,
@@ -25,7 +25,7 @@ fn kind_by(action: Action) -> u64
 
 // How many bytes the value in its record has.
 fn size_by(action: Action, size: usize) -> usize
-    ensures { result ≡ sizeBy action size }
+    ensures { result ≡ size_by action size }
 {
     match action {
         Action::Write(_) => size,
@@ -35,7 +35,7 @@ fn size_by(action: Action, size: usize) -> usize
 
 // The number in the kind words: a basket of one has 0.
 fn number_for(count: usize) -> u64
-    ensures { result ≡ sizeFieldFor count }
+    ensures { result ≡ size_field_for count }
 {
     if count == 1 {
         return 0;
@@ -57,10 +57,10 @@ pub fn fill_basket_stores(
 )
     requires { StoresInside l image.now version count items slots (length at.old) (length words.old) }
     ensures result { (at.new
-        ≡ atFront (wordNumbers (basketStores l (word image.now) (sizeFieldFor count) version (recordsFrom l items values slots 0 count)))
+        ≡ at_front (word_numbers (basket_stores l (word image.now) (size_field_for count) version (records_from l items values slots 0 count)))
         at.old)
         × (words.new
-        ≡ atFront (values_of (basketStores l (word image.now) (sizeFieldFor count) version (recordsFrom l items values slots 0 count)))
+        ≡ at_front (values_of (basket_stores l (word image.now) (size_field_for count) version (records_from l items values slots 0 count)))
         words.old) }
 {
     let number = number_for(count);

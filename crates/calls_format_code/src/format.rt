@@ -1,6 +1,6 @@
 // Format: a lent slice of bytes becomes an empty image.
 ghost use Rattle.std.specs.Prelude.{◌≡◌, length, replicate};
-ghost use Rattle.calls.specs.Format.{formatFault, formatEnd, formatResult};
+ghost use Rattle.calls.specs.Format.{format_fault, format_end, format_result};
 
 use calls::Formatted;
 use layout_code::header::slot_count;
@@ -19,7 +19,7 @@ fn zero_bytes(image: &mut [u8])
 
 // 1 by the number of slots, or 32 by the layout, else 0.
 fn format_fault(l: u64, n: usize) -> u32
-    ensures { result ≡ formatFault l n }
+    ensures { result ≡ format_fault l n }
 {
     if n == 0 {
         return 1;
@@ -35,7 +35,7 @@ fn format_fault(l: u64, n: usize) -> u32
 
 // The bytes become an empty image of layout l: the number of its slots, or refusal 1 or 32, which changes no byte.
 pub fn format(image: &mut [u8], l: u64) -> Formatted
-    ensures result { formatEnd result image.new ≡ formatResult l image.old }
+    ensures result { format_end result image.new ≡ format_result l image.old }
 {
     let n = slot_count(image.len());
     let fault = format_fault(l, n);

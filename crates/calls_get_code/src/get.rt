@@ -1,9 +1,9 @@
 // Get: the value of a key. `l` is the layout; a key is two words, the high one 0 in layout 1.
 ghost use Rattle.std.specs.Prelude.{◌≡◌};
-ghost use Rattle.layout.specs.Record.{Layout, keyWith};
-ghost use Rattle.layout.specs.Layouts.{layoutNumber};
-ghost use Rattle.calls.specs.Moved.{getMoved};
-ghost use Rattle.calls.specs.Get.{getEnd, lengthFault, getLaterFault, getResult};
+ghost use Rattle.layout.specs.Record.{Layout, key_with};
+ghost use Rattle.layout.specs.Layouts.{layout_number};
+ghost use Rattle.calls.specs.Moved.{get_moved};
+ghost use Rattle.calls.specs.Get.{get_end, length_fault, get_later_fault, get_result};
 ghost use Rattle.calls.specs.inner.Lookup.{FoundInside, GetLookup};
 
 use calls::{GetAnswer, Got};
@@ -16,7 +16,7 @@ use layout_fields_code::fields::{layout_number, slot_length, value_limit};
 // 23 or 13 for a value of n bytes and an output of this size, else 0.
 fn length_fault(l: usize, n: usize, size: usize) -> u32
     requires { Layout l }
-    ensures { result ≡ lengthFault l n size }
+    ensures { result ≡ length_fault l n size }
 {
     if value_limit(l) < n {
         return 23;
@@ -30,7 +30,7 @@ fn length_fault(l: usize, n: usize, size: usize) -> u32
 // 11 (chain), 23 or 13 by what the key's chain has, else 0.
 fn get_later_fault(image: &[u8], l: usize, size: usize, found: Found) -> u32
     requires { Layout l × FoundInside l image.now found }
-    ensures { result ≡ getLaterFault l image.now size found }
+    ensures { result ≡ get_later_fault l image.now size found }
 {
     match found {
         Found::At {
@@ -57,7 +57,7 @@ fn get_lookup(
     size: usize,
 ) -> Lookup
     requires { Layout l }
-    ensures { GetLookup l image.now heads.now next.now (keyWith low high) size result }
+    ensures { GetLookup l image.now heads.now next.now (key_with low high) size result }
 {
     let lent = lent_fault(image, l, heads.len(), next.len());
     if lent != 0 {
@@ -82,9 +82,9 @@ pub fn get_in(
     out: &mut [u8],
 ) -> GetAnswer
     requires { Layout l }
-    ensures result { getEnd result out.new
-        ≡ getResult l image.now heads.now next.now (keyWith low high) out.old }
-    ensures moved { result.moved ≡ getMoved result.got }
+    ensures result { get_end result out.new
+        ≡ get_result l image.now heads.now next.now (key_with low high) out.old }
+    ensures moved { result.moved ≡ get_moved result.got }
 {
     let lookup = get_lookup(image, l, heads, next, low, high, out.len());
     match lookup {
@@ -122,9 +122,9 @@ pub fn get_in_layout(
     high: u64,
     out: &mut [u8],
 ) -> GetAnswer
-    ensures result { getEnd result out.new
-        ≡ getResult (layoutNumber wide) image.now heads.now next.now (keyWith low high) out.old }
-    ensures moved { result.moved ≡ getMoved result.got }
+    ensures result { get_end result out.new
+        ≡ get_result (layout_number wide) image.now heads.now next.now (key_with low high) out.old }
+    ensures moved { result.moved ≡ get_moved result.got }
 {
     get_in(image, layout_number(wide), heads, next, low, high, out)
 }
@@ -132,9 +132,9 @@ pub fn get_in_layout(
 // The value of the key fills the front of out: its length, absent, or a refusal. Neither of the last two changes out.
 // Each has the slots compared and the words moved.
 pub fn get(image: &[u8], heads: &[u32], next: &[u32], key: u64, out: &mut [u8]) -> GetAnswer
-    ensures result { getEnd result out.new
-        ≡ getResult 1 image.now heads.now next.now key out.old }
-    ensures moved { result.moved ≡ getMoved result.got }
+    ensures result { get_end result out.new
+        ≡ get_result 1 image.now heads.now next.now key out.old }
+    ensures moved { result.moved ≡ get_moved result.got }
 {
     get_in(image, 1, heads, next, key, 0, out)
 }
@@ -148,9 +148,9 @@ pub fn get2(
     high: u64,
     out: &mut [u8],
 ) -> GetAnswer
-    ensures result { getEnd result out.new
-        ≡ getResult 2 image.now heads.now next.now (keyWith low high) out.old }
-    ensures moved { result.moved ≡ getMoved result.got }
+    ensures result { get_end result out.new
+        ≡ get_result 2 image.now heads.now next.now (key_with low high) out.old }
+    ensures moved { result.moved ≡ get_moved result.got }
 {
     get_in(image, 2, heads, next, low, high, out)
 }

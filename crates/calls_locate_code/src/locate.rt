@@ -1,8 +1,8 @@
 // Locate: the slot and the version of a key. `l` is the layout; a key is two words, the high one 0 in layout 1.
 ghost use Rattle.std.specs.Prelude.{◌≡◌};
-ghost use Rattle.layout.specs.Record.{Layout, keyWith};
-ghost use Rattle.layout.specs.Layouts.{layoutNumber};
-ghost use Rattle.calls.specs.Locate.{locateEnd, locateResult};
+ghost use Rattle.layout.specs.Record.{Layout, key_with};
+ghost use Rattle.layout.specs.Layouts.{layout_number};
+ghost use Rattle.calls.specs.Locate.{locate_end, locate_result};
 
 use calls::{LocateAnswer, Located};
 use index::Found;
@@ -21,7 +21,7 @@ pub fn locate_in(
     high: u64,
 ) -> LocateAnswer
     requires { Layout l }
-    ensures result { locateEnd result ≡ locateResult l image.now heads.now next.now (keyWith low high) }
+    ensures result { locate_end result ≡ locate_result l image.now heads.now next.now (key_with low high) }
 {
     let lent = lent_fault(image, l, heads.len(), next.len());
     if lent != 0 {
@@ -63,22 +63,22 @@ pub fn locate_in_layout(
     low: u64,
     high: u64,
 ) -> LocateAnswer
-    ensures result { locateEnd result
-        ≡ locateResult (layoutNumber wide) image.now heads.now next.now (keyWith low high) }
+    ensures result { locate_end result
+        ≡ locate_result (layout_number wide) image.now heads.now next.now (key_with low high) }
 {
     locate_in(image, layout_number(wide), heads, next, low, high)
 }
 
 // The slot that holds the key and the version on its line A; absent; or a refusal. Each has the slots compared.
 pub fn locate(image: &[u8], heads: &[u32], next: &[u32], key: u64) -> LocateAnswer
-    ensures result { locateEnd result ≡ locateResult 1 image.now heads.now next.now key }
+    ensures result { locate_end result ≡ locate_result 1 image.now heads.now next.now key }
 {
     locate_in(image, 1, heads, next, key, 0)
 }
 
 // Locate in layout 2: a key of two words.
 pub fn locate2(image: &[u8], heads: &[u32], next: &[u32], low: u64, high: u64) -> LocateAnswer
-    ensures result { locateEnd result ≡ locateResult 2 image.now heads.now next.now (keyWith low high) }
+    ensures result { locate_end result ≡ locate_result 2 image.now heads.now next.now (key_with low high) }
 {
     locate_in(image, 2, heads, next, low, high)
 }

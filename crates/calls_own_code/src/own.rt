@@ -4,12 +4,12 @@
 // they are the calls for any index; of any other they are as safe, and refuse by these slots. A call
 // whose name ends in 2 is layout 2's, and its key is two words.
 ghost use Rattle.std.specs.Prelude.{◌≡◌, true, length};
-ghost use Rattle.layout.specs.Record.{keyWith};
+ghost use Rattle.layout.specs.Record.{key_with};
 ghost use Rattle.stores.specs.Store.{zipped};
 ghost use Rattle.index.specs.declared.Mode.TheVariants.{Insert, Replace};
 ghost use Rattle.index.specs.Index.{index_of};
-ghost use Rattle.calls.specs.Moved.{writeMoved};
-ghost use Rattle.calls.specs.Change.{changeEnd, buffersAfter, writeResultBy, removeResultBy};
+ghost use Rattle.calls.specs.Moved.{write_moved};
+ghost use Rattle.calls.specs.Change.{change_end, buffers_after, write_result_by, remove_result_by};
 
 use calls::Change;
 use calls_write_layout_code::remove::remove_in;
@@ -27,10 +27,10 @@ pub fn own_insert(
     at: &mut [u32; 16],
     words: &mut [u64; 16],
 ) -> Change
-    ensures result { changeEnd result at.new words.new heads.new next.new
-        ≡ buffersAfter (zipped at.old words.old)
-        (writeResultBy true 1 image.now (index_of heads.old next.old state) Insert key value.now) }
-    ensures moved { result.moved ≡ writeMoved result.outcome (length value.now) }
+    ensures result { change_end result at.new words.new heads.new next.new
+        ≡ buffers_after (zipped at.old words.old)
+        (write_result_by true 1 image.now (index_of heads.old next.old state) Insert key value.now) }
+    ensures moved { result.moved ≡ write_moved result.outcome (length value.now) }
 {
     insert_in(image, 1, heads, next, state, key, 0, value, at, words, true)
 }
@@ -46,10 +46,10 @@ pub fn own_replace(
     at: &mut [u32; 16],
     words: &mut [u64; 16],
 ) -> Change
-    ensures result { changeEnd result at.new words.new heads.new next.new
-        ≡ buffersAfter (zipped at.old words.old)
-        (writeResultBy true 1 image.now (index_of heads.old next.old state) Replace key value.now) }
-    ensures moved { result.moved ≡ writeMoved result.outcome (length value.now) }
+    ensures result { change_end result at.new words.new heads.new next.new
+        ≡ buffers_after (zipped at.old words.old)
+        (write_result_by true 1 image.now (index_of heads.old next.old state) Replace key value.now) }
+    ensures moved { result.moved ≡ write_moved result.outcome (length value.now) }
 {
     replace_in(image, 1, heads, next, state, key, 0, value, at, words, true)
 }
@@ -64,9 +64,9 @@ pub fn own_remove(
     at: &mut [u32; 16],
     words: &mut [u64; 16],
 ) -> Change
-    ensures result { changeEnd result at.new words.new heads.new next.new
-        ≡ buffersAfter (zipped at.old words.old)
-        (removeResultBy true 1 image.now (index_of heads.old next.old state) key) }
+    ensures result { change_end result at.new words.new heads.new next.new
+        ≡ buffers_after (zipped at.old words.old)
+        (remove_result_by true 1 image.now (index_of heads.old next.old state) key) }
     ensures moved { result.moved ≡ 0 }
 {
     remove_in(image, 1, heads, next, state, key, 0, at, words, true)
@@ -84,10 +84,10 @@ pub fn own_insert2(
     at: &mut [u32; 16],
     words: &mut [u64; 16],
 ) -> Change
-    ensures result { changeEnd result at.new words.new heads.new next.new
-        ≡ buffersAfter (zipped at.old words.old)
-        (writeResultBy true 2 image.now (index_of heads.old next.old state) Insert (keyWith low high) value.now) }
-    ensures moved { result.moved ≡ writeMoved result.outcome (length value.now) }
+    ensures result { change_end result at.new words.new heads.new next.new
+        ≡ buffers_after (zipped at.old words.old)
+        (write_result_by true 2 image.now (index_of heads.old next.old state) Insert (key_with low high) value.now) }
+    ensures moved { result.moved ≡ write_moved result.outcome (length value.now) }
 {
     insert_in(
         image, 2, heads, next, state, low, high, value, at, words, true,
@@ -106,10 +106,10 @@ pub fn own_replace2(
     at: &mut [u32; 16],
     words: &mut [u64; 16],
 ) -> Change
-    ensures result { changeEnd result at.new words.new heads.new next.new
-        ≡ buffersAfter (zipped at.old words.old)
-        (writeResultBy true 2 image.now (index_of heads.old next.old state) Replace (keyWith low high) value.now) }
-    ensures moved { result.moved ≡ writeMoved result.outcome (length value.now) }
+    ensures result { change_end result at.new words.new heads.new next.new
+        ≡ buffers_after (zipped at.old words.old)
+        (write_result_by true 2 image.now (index_of heads.old next.old state) Replace (key_with low high) value.now) }
+    ensures moved { result.moved ≡ write_moved result.outcome (length value.now) }
 {
     replace_in(
         image, 2, heads, next, state, low, high, value, at, words, true,
@@ -127,9 +127,9 @@ pub fn own_remove2(
     at: &mut [u32; 16],
     words: &mut [u64; 16],
 ) -> Change
-    ensures result { changeEnd result at.new words.new heads.new next.new
-        ≡ buffersAfter (zipped at.old words.old)
-        (removeResultBy true 2 image.now (index_of heads.old next.old state) (keyWith low high)) }
+    ensures result { change_end result at.new words.new heads.new next.new
+        ≡ buffers_after (zipped at.old words.old)
+        (remove_result_by true 2 image.now (index_of heads.old next.old state) (key_with low high)) }
     ensures moved { result.moved ≡ 0 }
 {
     remove_in(image, 2, heads, next, state, low, high, at, words, true)

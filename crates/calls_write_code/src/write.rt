@@ -1,12 +1,12 @@
 // Insert and replace: a key that is not held, or one that is, gets a value. A call whose name ends in 2 is
 // layout 2's, and its key is two words.
 ghost use Rattle.std.specs.Prelude.{◌≡◌, length};
-ghost use Rattle.layout.specs.Record.{keyWith};
+ghost use Rattle.layout.specs.Record.{key_with};
 ghost use Rattle.stores.specs.Store.{zipped};
 ghost use Rattle.index.specs.declared.Mode.TheVariants.{Insert, Replace};
 ghost use Rattle.index.specs.Index.{index_of};
-ghost use Rattle.calls.specs.Moved.{writeMoved};
-ghost use Rattle.calls.specs.Change.{changeEnd, buffersAfter, writeResult};
+ghost use Rattle.calls.specs.Moved.{write_moved};
+ghost use Rattle.calls.specs.Change.{change_end, buffers_after, write_result};
 
 use calls::Change;
 use calls_write_layout_code::write::{insert_in, replace_in};
@@ -24,10 +24,10 @@ pub fn insert(
     at: &mut [u32; 16],
     words: &mut [u64; 16],
 ) -> Change
-    ensures result { changeEnd result at.new words.new heads.new next.new
-        ≡ buffersAfter (zipped at.old words.old)
-        (writeResult 1 image.now (index_of heads.old next.old state) Insert key value.now) }
-    ensures moved { result.moved ≡ writeMoved result.outcome (length value.now) }
+    ensures result { change_end result at.new words.new heads.new next.new
+        ≡ buffers_after (zipped at.old words.old)
+        (write_result 1 image.now (index_of heads.old next.old state) Insert key value.now) }
+    ensures moved { result.moved ≡ write_moved result.outcome (length value.now) }
 {
     insert_in(
         image, 1, heads, next, state, key, 0, value, at, words, false,
@@ -45,10 +45,10 @@ pub fn replace(
     at: &mut [u32; 16],
     words: &mut [u64; 16],
 ) -> Change
-    ensures result { changeEnd result at.new words.new heads.new next.new
-        ≡ buffersAfter (zipped at.old words.old)
-        (writeResult 1 image.now (index_of heads.old next.old state) Replace key value.now) }
-    ensures moved { result.moved ≡ writeMoved result.outcome (length value.now) }
+    ensures result { change_end result at.new words.new heads.new next.new
+        ≡ buffers_after (zipped at.old words.old)
+        (write_result 1 image.now (index_of heads.old next.old state) Replace key value.now) }
+    ensures moved { result.moved ≡ write_moved result.outcome (length value.now) }
 {
     replace_in(
         image, 1, heads, next, state, key, 0, value, at, words, false,
@@ -67,10 +67,10 @@ pub fn insert2(
     at: &mut [u32; 16],
     words: &mut [u64; 16],
 ) -> Change
-    ensures result { changeEnd result at.new words.new heads.new next.new
-        ≡ buffersAfter (zipped at.old words.old)
-        (writeResult 2 image.now (index_of heads.old next.old state) Insert (keyWith low high) value.now) }
-    ensures moved { result.moved ≡ writeMoved result.outcome (length value.now) }
+    ensures result { change_end result at.new words.new heads.new next.new
+        ≡ buffers_after (zipped at.old words.old)
+        (write_result 2 image.now (index_of heads.old next.old state) Insert (key_with low high) value.now) }
+    ensures moved { result.moved ≡ write_moved result.outcome (length value.now) }
 {
     insert_in(
         image, 2, // an insert in layout 2
@@ -90,10 +90,10 @@ pub fn replace2(
     at: &mut [u32; 16],
     words: &mut [u64; 16],
 ) -> Change
-    ensures result { changeEnd result at.new words.new heads.new next.new
-        ≡ buffersAfter (zipped at.old words.old)
-        (writeResult 2 image.now (index_of heads.old next.old state) Replace (keyWith low high) value.now) }
-    ensures moved { result.moved ≡ writeMoved result.outcome (length value.now) }
+    ensures result { change_end result at.new words.new heads.new next.new
+        ≡ buffers_after (zipped at.old words.old)
+        (write_result 2 image.now (index_of heads.old next.old state) Replace (key_with low high) value.now) }
+    ensures moved { result.moved ≡ write_moved result.outcome (length value.now) }
 {
     replace_in(
         image, 2, // a replace in layout 2

@@ -10,20 +10,20 @@ use Rattle.index.specs.declared.Lookup.{Lookup}
 use Rattle.index.specs.declared.Lookup.TheVariants.{Accepted}
 use Rattle.index.specs.declared.Place.TheVariants.{Held}
 use Rattle.calls.specs.Result.{CallResult, unchanged}
-use Rattle.calls.specs.Change.{storesAfter, buffersAfter, changed}
+use Rattle.calls.specs.Change.{stores_after, buffers_after, changed}
 use Rattle.calls.specs.inner.Lookup.{Writable, RemoveReady}
 
 module _ {k k' : ℕ} (e : k ≡ k') {r : CallResult} where
   -- a call that changes nothing
-  pub kept-end : (lent : List Store) (answer : Answer) (i : Index) → unchanged answer i k' ≡ r
-      → record { answer = answer; out = []; stores = lent; index = i; compared = k } ≡ buffersAfter lent r
-  unfolding unchanged buffersAfter storesAfter
-  kept-end lent answer i h = ap (λ (x : ℕ). buffersAfter lent (unchanged answer i x)) e ∙ ap (buffersAfter lent) h
+  pub kept_end : (lent : List Store) (answer : Answer) (i : Index) → unchanged answer i k' ≡ r
+      → record { answer = answer; out = []; stores = lent; index = i; compared = k } ≡ buffers_after lent r
+  unfolding unchanged buffers_after stores_after
+  kept_end lent answer i h = ap (λ (x : ℕ). buffers_after lent (unchanged answer i x)) e ∙ ap (buffers_after lent) h
 
   -- one that stores a record
-  pub changed-by : (l : ℕ) (image : List ℕ) (s : State) (t key kind : ℕ) (value : List ℕ) (i : Index) (live : ℕ)
+  pub changed_by : (l : ℕ) (image : List ℕ) (s : State) (t key kind : ℕ) (value : List ℕ) (i : Index) (live : ℕ)
       → changed l image s t key kind value i live k' ≡ r → changed l image s t key kind value i live k ≡ r
-  changed-by l image s t key kind value i live h = ap (changed l image s t key kind value i live) e ∙ h
+  changed_by l image s t key kind value i live h = ap (changed l image s t key kind value i live) e ∙ h
 
 -- a remove of a key that is held and that is not refused, r being its lookup
 pub removable : (image heads next : List ℕ) (s : State) (key : ℕ) {r : Lookup} → RemoveReady image heads next s key r → {slot prev compared : ℕ}

@@ -1,10 +1,10 @@
 // Remove with the layout as a parameter. A key is two words, the high one 0 in layout 1.
 ghost use Rattle.std.specs.Prelude.{◌≡◌};
-ghost use Rattle.layout.specs.Record.{Layout, keyWith};
-ghost use Rattle.layout.specs.Layouts.{layoutNumber};
+ghost use Rattle.layout.specs.Record.{Layout, key_with};
+ghost use Rattle.layout.specs.Layouts.{layout_number};
 ghost use Rattle.stores.specs.Store.{zipped};
 ghost use Rattle.index.specs.Index.{index_of};
-ghost use Rattle.calls.specs.Change.{changeEnd, buffersAfter, removeResultBy};
+ghost use Rattle.calls.specs.Change.{change_end, buffers_after, remove_result_by};
 
 use calls::{Change, Outcome};
 use calls_write_lookup_code::remove::remove_lookup;
@@ -29,9 +29,9 @@ pub fn remove_in(
     own: bool,
 ) -> Change
     requires { Layout l }
-    ensures result { changeEnd result at.new words.new heads.new next.new
-        ≡ buffersAfter (zipped at.old words.old)
-        (removeResultBy own l image.now (index_of heads.old next.old state) (keyWith low high)) }
+    ensures result { change_end result at.new words.new heads.new next.new
+        ≡ buffers_after (zipped at.old words.old)
+        (remove_result_by own l image.now (index_of heads.old next.old state) (key_with low high)) }
     ensures moved { result.moved ≡ 0 }
 {
     let lookup = remove_lookup(image, l, heads, next, state, low, high, own);
@@ -90,9 +90,9 @@ pub fn remove_in_layout(
     words: &mut [u64; 16],
     own: bool,
 ) -> Change
-    ensures result { changeEnd result at.new words.new heads.new next.new
-        ≡ buffersAfter (zipped at.old words.old)
-        (removeResultBy own (layoutNumber wide) image.now (index_of heads.old next.old state) (keyWith low high)) }
+    ensures result { change_end result at.new words.new heads.new next.new
+        ≡ buffers_after (zipped at.old words.old)
+        (remove_result_by own (layout_number wide) image.now (index_of heads.old next.old state) (key_with low high)) }
     ensures moved { result.moved ≡ 0 }
 {
     remove_in(

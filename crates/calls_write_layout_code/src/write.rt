@@ -1,12 +1,12 @@
 // Insert and replace with the layout as a parameter. A key is two words, the high one 0 in layout 1.
 ghost use Rattle.std.specs.Prelude.{◌≡◌, length};
-ghost use Rattle.layout.specs.Record.{Layout, keyWith};
-ghost use Rattle.layout.specs.Layouts.{layoutNumber};
+ghost use Rattle.layout.specs.Record.{Layout, key_with};
+ghost use Rattle.layout.specs.Layouts.{layout_number};
 ghost use Rattle.stores.specs.Store.{zipped};
 ghost use Rattle.index.specs.declared.Mode.TheVariants.{Insert, Replace};
 ghost use Rattle.index.specs.Index.{index_of};
-ghost use Rattle.calls.specs.Moved.{writeMoved};
-ghost use Rattle.calls.specs.Change.{changeEnd, buffersAfter, writeResultBy};
+ghost use Rattle.calls.specs.Moved.{write_moved};
+ghost use Rattle.calls.specs.Change.{change_end, buffers_after, write_result_by};
 
 use calls::{Change, Outcome};
 use calls_write_lookup_code::write::{insert_lookup, replace_lookup};
@@ -32,11 +32,11 @@ pub fn insert_in(
     own: bool,
 ) -> Change
     requires { Layout l }
-    ensures result { changeEnd result at.new words.new heads.new next.new
-        ≡ buffersAfter (zipped at.old words.old)
-        (writeResultBy own l image.now (index_of heads.old next.old state) Insert (keyWith low high)
+    ensures result { change_end result at.new words.new heads.new next.new
+        ≡ buffers_after (zipped at.old words.old)
+        (write_result_by own l image.now (index_of heads.old next.old state) Insert (key_with low high)
         value.now) }
-    ensures moved { result.moved ≡ writeMoved result.outcome (length value.now) }
+    ensures moved { result.moved ≡ write_moved result.outcome (length value.now) }
 {
     let lookup = insert_lookup(image, l, heads, next, state, low, high, value.len(), own);
     match lookup {
@@ -90,11 +90,11 @@ pub fn replace_in(
     own: bool,
 ) -> Change
     requires { Layout l }
-    ensures result { changeEnd result at.new words.new heads.new next.new
-        ≡ buffersAfter (zipped at.old words.old)
-        (writeResultBy own l image.now (index_of heads.old next.old state) Replace (keyWith low high)
+    ensures result { change_end result at.new words.new heads.new next.new
+        ≡ buffers_after (zipped at.old words.old)
+        (write_result_by own l image.now (index_of heads.old next.old state) Replace (key_with low high)
         value.now) }
-    ensures moved { result.moved ≡ writeMoved result.outcome (length value.now) }
+    ensures moved { result.moved ≡ write_moved result.outcome (length value.now) }
 {
     let lookup = replace_lookup(image, l, heads, next, state, low, high, value.len(), own);
     match lookup {
@@ -148,11 +148,11 @@ pub fn write_in_layout(
     words: &mut [u64; 16],
     own: bool,
 ) -> Change
-    ensures result { changeEnd result at.new words.new heads.new next.new
-        ≡ buffersAfter (zipped at.old words.old)
-        (writeResultBy own (layoutNumber wide) image.now (index_of heads.old next.old state) mode (keyWith low high)
+    ensures result { change_end result at.new words.new heads.new next.new
+        ≡ buffers_after (zipped at.old words.old)
+        (write_result_by own (layout_number wide) image.now (index_of heads.old next.old state) mode (key_with low high)
         value.now) }
-    ensures moved { result.moved ≡ writeMoved result.outcome (length value.now) }
+    ensures moved { result.moved ≡ write_moved result.outcome (length value.now) }
 {
     let l = layout_number(wide);
     match mode {

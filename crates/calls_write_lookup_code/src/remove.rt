@@ -1,5 +1,5 @@
 // What a remove reads before it writes.
-ghost use Rattle.layout.specs.Record.{Layout, keyWith};
+ghost use Rattle.layout.specs.Record.{Layout, key_with};
 ghost use Rattle.index.specs.Index.{index_of};
 ghost use Rattle.calls.specs.inner.Lookup.{RemoveLookup};
 
@@ -21,7 +21,7 @@ pub fn remove_lookup(
     own: bool,
 ) -> Lookup
     requires { Layout l }
-    ensures result { RemoveLookup own l image.now (index_of heads.now next.now state) (keyWith low high) result }
+    ensures result { RemoveLookup own l image.now (index_of heads.now next.now state) (key_with low high) result }
 {
     let lent = lent_fault(image, l, heads.len(), next.len());
     if lent != 0 {

@@ -1,8 +1,8 @@
 // The refusals of a call that stores and is not refused for its key.
 ghost use Rattle.std.specs.Prelude.{◌≡◌, true};
-ghost use Rattle.allocation.specs.Allocation.{allocationBy};
+ghost use Rattle.allocation.specs.Allocation.{allocation_by};
 ghost use Rattle.allocation.specs.inner.Takeable.{Walkable};
-ghost use Rattle.calls.specs.Change.{storeFault};
+ghost use Rattle.calls.specs.Change.{store_fault};
 
 use allocation_code::take::{full_fault, is_open_by, take_fault_by};
 use index::State;
@@ -23,7 +23,7 @@ pub fn is_accepted(
 ) -> bool
     requires { Walkable image.now next.now l n }
     ensures result { result ≡ true
-        → storeFault (allocationBy own l image.now next.now n state.first state.newest 1) n state inserts removes ≡ 0 }
+        → store_fault (allocation_by own l image.now next.now n state.first state.newest 1) n state inserts removes ≡ 0 }
 {
     if ends_fault(n as u32, state.first, state.last) != 0 {
         return false;
@@ -54,7 +54,7 @@ pub fn store_fault(
 ) -> u32
     requires { Walkable image.now next.now l n }
     ensures result { result
-        ≡ storeFault (allocationBy own l image.now next.now n state.first state.newest 1) n state inserts removes }
+        ≡ store_fault (allocation_by own l image.now next.now n state.first state.newest 1) n state inserts removes }
 {
     let ends = ends_fault(n as u32, state.first, state.last);
     if ends != 0 {

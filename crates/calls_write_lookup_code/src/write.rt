@@ -1,10 +1,10 @@
 // What an insert or a replace reads before it writes. The two are functions of their own, so that each is compiled for
 // its mode alone.
 ghost use Rattle.std.specs.Prelude.{◌≡◌};
-ghost use Rattle.layout.specs.Record.{Layout, keyWith};
+ghost use Rattle.layout.specs.Record.{Layout, key_with};
 ghost use Rattle.index.specs.declared.Mode.TheVariants.{Insert, Replace};
 ghost use Rattle.index.specs.Index.{index_of};
-ghost use Rattle.calls.specs.Change.{writeLentFault};
+ghost use Rattle.calls.specs.Change.{write_lent_fault};
 ghost use Rattle.calls.specs.inner.Lookup.{WriteLookup};
 
 use crate::store::{is_accepted, store_fault};
@@ -16,7 +16,7 @@ use layout_fields_code::fields::value_limit;
 // 1, 2, 3, 4 or 10 by what is lent, else 0; size is the value's length.
 fn write_lent_fault(image: &[u8], l: usize, heads: usize, next: usize, size: usize) -> u32
     requires { Layout l }
-    ensures { result ≡ writeLentFault l image.now heads next size }
+    ensures { result ≡ write_lent_fault l image.now heads next size }
 {
     let lent = lent_fault(image, l, heads, next);
     if lent != 0 {
@@ -42,7 +42,7 @@ pub fn insert_lookup(
 ) -> Lookup
     requires { Layout l }
     ensures result { WriteLookup own l image.now (index_of heads.now next.now state) Insert
-        (keyWith low high) size result }
+        (key_with low high) size result }
 {
     let lent = write_lent_fault(image, l, heads.len(), next.len(), size);
     if lent != 0 {
@@ -93,7 +93,7 @@ pub fn replace_lookup(
 ) -> Lookup
     requires { Layout l }
     ensures result { WriteLookup own l image.now (index_of heads.now next.now state) Replace
-        (keyWith low high) size result }
+        (key_with low high) size result }
 {
     let lent = write_lent_fault(image, l, heads.len(), next.len(), size);
     if lent != 0 {

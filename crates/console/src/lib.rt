@@ -1,7 +1,7 @@
 // A session from standard input to standard output, of any size; and the output of one that is read byte by byte.
 ghost use Rattle.std.specs.Prelude.{◌≡◌, true, false, not, cond, ◌≤◌, eqb, length};
-ghost use Rattle.session.specs.Step.{stepResult};
-ghost use Rattle.session.specs.Stream.{streamEnd, lacksRoom, emptied, afterRead};
+ghost use Rattle.session.specs.Step.{step_result};
+ghost use Rattle.session.specs.Stream.{stream_end, lacks_room, emptied, after_read};
 
 use libc::{STDIN_FILENO, STDOUT_FILENO};
 use session::Progress;
@@ -50,9 +50,9 @@ pub fn flush(p: Progress, out: &[u8]) -> Status
 
 // After a byte: the output is written before a further line might lack room, and only then.
 pub fn after_byte(p: Progress, out: &[u8]) -> Status
-    ensures progress { result.progress ≡ cond (lacksRoom p (length out.now)) (emptied p) p }
+    ensures progress { result.progress ≡ cond (lacks_room p (length out.now)) (emptied p) p }
     ensures reading { result.reading ≡ result.written }
-    ensures room { lacksRoom p (length out.now) ≡ false → result.written ≡ true }
+    ensures room { lacks_room p (length out.now) ≡ false → result.written ≡ true }
 {
     let at = p.at;
     if out.len() < at {
@@ -79,9 +79,9 @@ fn take_bytes(
     out: &mut [u8],
 ) -> Status
     ensures stream { result.written ≡ true →
-        streamEnd result.progress image.new heads.new next.new out.new ≡
-        afterRead stepResult
-        (streamEnd t.progress image.old heads.old next.old out.old) input.now }
+        stream_end result.progress image.new heads.new next.new out.new ≡
+        after_read step_result
+        (stream_end t.progress image.old heads.old next.old out.old) input.now }
     ensures reading { result.written ≡ true → result.reading ≡ not (eqb (length input.now) 0) }
 {
     let mut u = t;

@@ -3,37 +3,37 @@ use Rattle.std.specs.Prelude.{◌≡◌, Bool, true, false, not, ◌&&◌, List,
 use Rattle.std.proofs.Math.Option.{Option, some, none}
 use Rattle.prelude.specs.Range.{any_of}
 use Rattle.layout.specs.Content.{Table}
-use Rattle.table.specs.Table.{keyIn, mapOf}
+use Rattle.table.specs.Table.{key_in, map_of}
 
 -- equal maps, of n slots with the table f and of m slots with the table g
 abbrev pub EqualMaps : (f : Table) → (n : ℕ) → (g : Table) → (m : ℕ) → Type 0
-EqualMaps f n g m = (k : ℕ) → mapOf f n k ≡ mapOf g m k
+EqualMaps f n g m = (k : ℕ) → map_of f n k ≡ map_of g m k
 
 -- ---- the same as a test
 
-unfoldable pub sameBytes : List ℕ → List ℕ → Bool
-sameBytes [] [] = true
-sameBytes [] (y ∷ ys) = false
-sameBytes (x ∷ xs) [] = false
-sameBytes (x ∷ xs) (y ∷ ys) = eqb x y && sameBytes xs ys
+unfoldable pub same_bytes : List ℕ → List ℕ → Bool
+same_bytes [] [] = true
+same_bytes [] (y ∷ ys) = false
+same_bytes (x ∷ xs) [] = false
+same_bytes (x ∷ xs) (y ∷ ys) = eqb x y && same_bytes xs ys
 
 -- the same value, or none in both
-unfoldable pub sameValue : Option (List ℕ) → Option (List ℕ) → Bool
-sameValue none none = true
-sameValue none (some w) = false
-sameValue (some v) none = false
-sameValue (some v) (some w) = sameBytes v w
+unfoldable pub same_value : Option (List ℕ) → Option (List ℕ) → Bool
+same_value none none = true
+same_value none (some w) = false
+same_value (some v) none = false
+same_value (some v) (some w) = same_bytes v w
 
 -- the maps differ at key k
-unfoldable pub differAt : (f : Table) → (n : ℕ) → (g : Table) → (m : ℕ) → (k : ℕ) → Bool
-differAt f n g m k = not (sameValue (mapOf f n k) (mapOf g m k))
+unfoldable pub differ_at : (f : Table) → (n : ℕ) → (g : Table) → (m : ℕ) → (k : ℕ) → Bool
+differ_at f n g m k = not (same_value (map_of f n k) (map_of g m k))
 
 -- they differ at no key that a slot of either has; any other key has no value in both
-unfoldable pub sameMap : (f : Table) → (n : ℕ) → (g : Table) → (m : ℕ) → Bool
-sameMap f n g m =
-    not (any_of (λ s. differAt f n g m (keyIn (f s))) 1 n) && not (any_of (λ s. differAt f n g m (keyIn (g s))) 1 m)
+unfoldable pub is_same_map : (f : Table) → (n : ℕ) → (g : Table) → (m : ℕ) → Bool
+is_same_map f n g m =
+    not (any_of (λ s. differ_at f n g m (key_in (f s))) 1 n) && not (any_of (λ s. differ_at f n g m (key_in (g s))) 1 m)
 
 -- the test decides whether the maps are equal
 pub record DecidesEqual (f : Table) (n : ℕ) (g : Table) (m : ℕ) : Type 0 where
-  pub equal : sameMap f n g m ≡ true → EqualMaps f n g m
-  pub test : EqualMaps f n g m → sameMap f n g m ≡ true
+  pub equal : is_same_map f n g m ≡ true → EqualMaps f n g m
+  pub test : EqualMaps f n g m → is_same_map f n g m ≡ true

@@ -1,7 +1,7 @@
 // Power cuts tried on paper: all 81 pairs of counts of sixteen stores are played, recovered and compared.
 ghost use Rattle.std.specs.Prelude.{◌≡◌};
 ghost use Rattle.layout.specs.Record.{Layout};
-ghost use Rattle.cut_counts.specs.CutCount.{cutCountEnd, cutCountResult};
+ghost use Rattle.cut_counts.specs.CutCount.{cut_count_end, cut_count_result};
 
 use cut_counts::CutCounts;
 use cut_counts_scratch_code::scratch::{count_512, count_65536};
@@ -17,8 +17,8 @@ fn count_cuts_in(
     later: &mut [u8],
 ) -> CutCounts
     requires { Layout l }
-    ensures { cutCountEnd result copy.new later.new
-        ≡ cutCountResult l image.now stores.at stores.value copy.old later.old }
+    ensures { cut_count_end result copy.new later.new
+        ≡ cut_count_result l image.now stores.at stores.value copy.old later.old }
 {
     let n = slot_count(image.len());
     if n < 512 {
@@ -31,16 +31,16 @@ fn count_cuts_in(
 // refusal, which changes nothing. Both lent slices have the length of the image, and then hold it with all stores
 // played.
 pub fn count_cuts(image: &[u8], stores: Stores, copy: &mut [u8], later: &mut [u8]) -> CutCounts
-    ensures result { cutCountEnd result copy.new later.new
-        ≡ cutCountResult 1 image.now stores.at stores.value copy.old later.old }
+    ensures result { cut_count_end result copy.new later.new
+        ≡ cut_count_result 1 image.now stores.at stores.value copy.old later.old }
 {
     count_cuts_in(image, 1, stores, copy, later)
 }
 
 // The same in layout 2.
 pub fn count_cuts2(image: &[u8], stores: Stores, copy: &mut [u8], later: &mut [u8]) -> CutCounts
-    ensures result { cutCountEnd result copy.new later.new
-        ≡ cutCountResult 2 image.now stores.at stores.value copy.old later.old }
+    ensures result { cut_count_end result copy.new later.new
+        ≡ cut_count_result 2 image.now stores.at stores.value copy.old later.old }
 {
     count_cuts_in(image, 2, stores, copy, later)
 }

@@ -1,10 +1,10 @@
 // Images with the index that recovery builds, and whether two of them have one map.
 ghost use Rattle.std.specs.Prelude.{◌≡◌};
-ghost use Rattle.layout.specs.Size.{slotsIn};
+ghost use Rattle.layout.specs.Size.{slots_in};
 ghost use Rattle.layout.specs.Record.{Layout};
 ghost use Rattle.table.specs.Complete.{table_of};
-ghost use Rattle.cut_counts.specs.Maps.{sameMap};
-ghost use Rattle.cut_counts.specs.CutCount.{haveOneMap};
+ghost use Rattle.cut_counts.specs.Maps.{is_same_map};
+ghost use Rattle.cut_counts.specs.CutCount.{have_one_map};
 ghost use Rattle.cut_counts.specs.inner.Indexed.{Mapped, IndexedBy};
 ghost use Rattle.cut_counts.specs.inner.Pairs.{FitsIndex};
 
@@ -43,8 +43,8 @@ fn same_map(
 ) -> bool
     requires { Layout l × Mapped l first.now first_heads.now first_next.now first_live
         × Mapped l second.now second_heads.now second_next.now second_live }
-    ensures { result ≡ sameMap (table_of l first.now) (slotsIn first.now) (table_of l second.now)
-        (slotsIn second.now) }
+    ensures { result ≡ is_same_map (table_of l first.now) (slots_in first.now) (table_of l second.now)
+        (slots_in second.now) }
 {
     if first_live != second_live {
         return false;
@@ -86,7 +86,7 @@ pub fn have_one_map(
 ) -> bool
     requires indexed { Layout l × IndexedBy l first.now first_heads.now first_next.now first_index
         × IndexedBy l second.now second_heads.now second_next.now second_index }
-    ensures result { result ≡ haveOneMap l first.now second.now }
+    ensures result { result ≡ have_one_map l first.now second.now }
 {
     match first_index {
         Indexed::Map(first_live) => match second_index {

@@ -1,7 +1,7 @@
 // The 81 pairs of counts.
 ghost use Rattle.std.specs.Prelude.{◌≡◌, cond, ◌+◌, ◌<◌, length};
 ghost use Rattle.layout.specs.Record.{Layout};
-ghost use Rattle.cut_counts.specs.CutCount.{cutImage};
+ghost use Rattle.cut_counts.specs.CutCount.{cut_image};
 ghost use Rattle.cut_counts.specs.inner.Indexed.{IndexedBy};
 ghost use Rattle.cut_counts.specs.inner.Pairs.{FitsIndex, tallied, tally_of};
 
@@ -34,7 +34,7 @@ pub fn cut_copy(
     next: &mut [u32],
 ) -> Indexed
     requires { Layout l × (length copy.old ≡ length image.now) × FitsIndex image.now heads.old next.old }
-    ensures result { (copy.new ≡ cutImage image.now stores.at stores.value a b)
+    ensures result { (copy.new ≡ cut_image image.now stores.at stores.value a b)
         × IndexedBy l copy.new heads.new next.new result }
 {
     copy_bytes(image, copy);
@@ -84,7 +84,7 @@ pub fn count_pairs(
         × IndexedBy l later.now later_heads.now later_next.now later_index × (length copy.old ≡ length image.now)
         × FitsIndex image.now copy_heads.old copy_next.old }
     ensures result { (result ≡ tally_of l image.now stores.at stores.value later.now 81)
-        × (copy.new ≡ cutImage image.now stores.at stores.value 8 8) }
+        × (copy.new ≡ cut_image image.now stores.at stores.value 8 8) }
 {
     let mut t = Tally {
         earlier: 0,

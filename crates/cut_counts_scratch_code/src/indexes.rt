@@ -1,7 +1,7 @@
 // The cuts are counted with three indexes: of the image, of the image with all stores played and of each cut.
 ghost use Rattle.std.specs.Prelude.{◌≡◌, length};
 ghost use Rattle.layout.specs.Record.{Layout};
-ghost use Rattle.cut_counts.specs.CutCount.{argumentsFault, cutImage, cutCountEnd, cutCountResult};
+ghost use Rattle.cut_counts.specs.CutCount.{arguments_fault, cut_image, cut_count_end, cut_count_result};
 ghost use Rattle.cut_counts.specs.inner.Indexed.{IndexedBy};
 ghost use Rattle.cut_counts.specs.inner.Pairs.{FitsIndex, tally_of};
 
@@ -13,7 +13,7 @@ use stores_code::fault::play_fault;
 
 // 15 by the stores, or 1 by the length of a lent slice, else 0.
 fn arguments_fault(len: usize, stores: Stores, copy: usize, later: usize) -> u32
-    ensures { result ≡ argumentsFault len stores.at copy later }
+    ensures { result ≡ arguments_fault len stores.at copy later }
 {
     let at = stores.at;
     let fault = play_fault(len, &at, 8, 8);
@@ -48,8 +48,8 @@ fn tally(
         × (length later.old ≡ length image.now) × FitsIndex image.now later_heads.old later_next.old
         × FitsIndex image.now copy_heads.old copy_next.old }
     ensures { (result ≡ tally_of l image.now stores.at stores.value later.new 81)
-        × (copy.new ≡ cutImage image.now stores.at stores.value 8 8)
-        × (later.new ≡ cutImage image.now stores.at stores.value 8 8) }
+        × (copy.new ≡ cut_image image.now stores.at stores.value 8 8)
+        × (later.new ≡ cut_image image.now stores.at stores.value 8 8) }
 {
     let later_index = cut_copy(image, l, stores, 8, 8, later, later_heads, later_next);
     count_pairs(
@@ -85,8 +85,8 @@ pub fn count_with_indexes(
 ) -> CutCounts
     requires { Layout l × FitsIndex image.now heads.old next.old × FitsIndex image.now later_heads.old later_next.old
         × FitsIndex image.now copy_heads.old copy_next.old }
-    ensures result { cutCountEnd result copy.new later.new
-        ≡ cutCountResult l image.now stores.at stores.value copy.old later.old }
+    ensures result { cut_count_end result copy.new later.new
+        ≡ cut_count_result l image.now stores.at stores.value copy.old later.old }
 {
     let index = index_image(image, l, heads, next);
     match index {

@@ -1,8 +1,8 @@
 // The three indexes that a count of cuts takes, as long as the number of slots asks for. Written by tools/scratch.
 ghost use Rattle.std.specs.Prelude.{◌≡◌, ◌<◌};
-ghost use Rattle.layout.specs.Size.{slotsIn};
+ghost use Rattle.layout.specs.Size.{slots_in};
 ghost use Rattle.layout.specs.Record.{Layout};
-ghost use Rattle.cut_counts.specs.CutCount.{cutCountEnd, cutCountResult};
+ghost use Rattle.cut_counts.specs.CutCount.{cut_count_end, cut_count_result};
 
 use crate::indexes::count_with_indexes;
 use cut_counts::CutCounts;
@@ -17,9 +17,9 @@ pub fn count_512(
     later: &mut [u8],
     n: usize,
 ) -> CutCounts
-    requires { Layout l × (n ≡ slotsIn image.now) × (n < 512) }
-    ensures result { cutCountEnd result copy.new later.new
-        ≡ cutCountResult l image.now stores.at stores.value copy.old later.old }
+    requires { Layout l × (n ≡ slots_in image.now) × (n < 512) }
+    ensures result { cut_count_end result copy.new later.new
+        ≡ cut_count_result l image.now stores.at stores.value copy.old later.old }
 {
     let m = n + 1;
     let mut heads = [0u32; 512];
@@ -52,9 +52,9 @@ pub fn count_65536(
     later: &mut [u8],
     n: usize,
 ) -> CutCounts
-    requires { Layout l × (n ≡ slotsIn image.now) × (n < 65536) }
-    ensures result { cutCountEnd result copy.new later.new
-        ≡ cutCountResult l image.now stores.at stores.value copy.old later.old }
+    requires { Layout l × (n ≡ slots_in image.now) × (n < 65536) }
+    ensures result { cut_count_end result copy.new later.new
+        ≡ cut_count_result l image.now stores.at stores.value copy.old later.old }
 {
     let m = n + 1;
     let mut heads = [0u32; 65536];

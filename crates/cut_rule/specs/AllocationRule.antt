@@ -5,27 +5,27 @@
 use Rattle.std.specs.Prelude.{◌≡◌, List, ℕ, length}
 use Rattle.prelude.specs.Members.{All}
 use Rattle.prelude.specs.History.{Throughout}
-use Rattle.interface.specs.Set.{Accepted, Layout, World, PlainMap, Restart, restarted, slotsIn, slotsMap, callResultBy, callResultByRule, basketCallResultBy}
-use Rattle.interface.specs.Set.{basketCallResultByRule}
-use Rattle.interface.specs.Event.{Event, effectsOf, requestOf, RestartFits, FitsBy}
-use Rattle.book.specs.Steps.{bookedBy}
-use Rattle.book.specs.Plain.{bookEffects, callFor}
-use Rattle.cut_rule.specs.Request.{Request, a_call, a-basket, a-step, TypedRequest, worldAfterRequest, mapAfterRequest}
+use Rattle.interface.specs.Set.{Accepted, Layout, World, PlainMap, Restart, restarted, slots_in, slots_map, call_result_by, call_result_by_rule, basket_call_result_by}
+use Rattle.interface.specs.Set.{basket_call_result_by_rule}
+use Rattle.interface.specs.Event.{Event, effects_of, request_of, RestartFits, FitsBy}
+use Rattle.book.specs.Steps.{booked_by}
+use Rattle.book.specs.Plain.{book_effects, call_for}
+use Rattle.cut_rule.specs.Request.{Request, a_call, a_basket, a_step, TypedRequest, world_after_request, map_after_request}
 
 -- answer, stores and index are those of the rule; a step leaves what its call leaves by the rule
 abbrev pub RequestByRule : (l : ℕ) → World → PlainMap → Request → Type 0
-RequestByRule l w m (a_call own call) = callResultBy own l w call ≡ callResultByRule l w call
-RequestByRule l w m (a-basket own b) = basketCallResultBy own l w b ≡ basketCallResultByRule l w b
-RequestByRule l w m (a-step own step) = bookEffects (bookedBy own l w step) ≡ effectsOf (callResultByRule l w (callFor l w m step))
+RequestByRule l w m (a_call own call) = call_result_by own l w call ≡ call_result_by_rule l w call
+RequestByRule l w m (a_basket own b) = basket_call_result_by own l w b ≡ basket_call_result_by_rule l w b
+RequestByRule l w m (a_step own step) = book_effects (booked_by own l w step) ≡ effects_of (call_result_by_rule l w (call_for l w m step))
 
 -- at each event of a list; the worlds and the plain maps are those of the cut rule
 abbrev pub ByRuleThroughout : (l : ℕ) → World → PlainMap → List (Event Request) → Type 0
 ByRuleThroughout l =
-    Throughout (worldAfterRequest l) (mapAfterRequest l) (λ w m. Unit) (λ w m event. RequestByRule l w m (requestOf event))
+    Throughout (world_after_request l) (map_after_request l) (λ w m. Unit) (λ w m event. RequestByRule l w m (request_of event))
 
 -- from an accepted image, for both layouts
 abbrev pub AllocationRule : Type 0
 AllocationRule =
     (l : ℕ) → Layout l → (image : List ℕ) (start : Restart) → Accepted l image
-    → RestartFits (slotsIn image) start → (events : List (Event Request)) → All (FitsBy (TypedRequest l) (slotsIn image)) events
-    → ByRuleThroughout l (restarted l image start) (slotsMap l image) events
+    → RestartFits (slots_in image) start → (events : List (Event Request)) → All (FitsBy (TypedRequest l) (slots_in image)) events
+    → ByRuleThroughout l (restarted l image start) (slots_map l image) events

@@ -5,165 +5,165 @@ use mathlib.Core.List.{List, [], ◌∷◌, ◌++◌}
 use Prim.Native.Nat.{ℕ, zero, suc, ◌^◌, ◌<◌}
 use native.Mathlib.Omega.{arith}
 use lib.ListN.{length, get_or, replicate}
-use Rattle.words.specs.Word.{AreBytes, word, setBytes, setWord}
-use Rattle.prelude.specs.Members.{All, none_left, one_more, slotNumbers}
-use Rattle.prelude.specs.Refusal.{refuseIf, or_else, unlessRefused}
-use Rattle.prelude.specs.Range.{any_of, tabulate, greatest, topmost, lowest, atLowest, count}
-use Rattle.prelude.specs.Filter.{filter, anyIn}
+use Rattle.words.specs.Word.{AreBytes, word, set_bytes, set_word}
+use Rattle.prelude.specs.Members.{All, none_left, one_more, slot_numbers}
+use Rattle.prelude.specs.Refusal.{refuse_if, or_else, unless_refused}
+use Rattle.prelude.specs.Range.{any_of, tabulate, greatest, topmost, lowest, at_lowest, count}
+use Rattle.prelude.specs.Filter.{filter, any_in}
 use Rattle.prelude.proofs.Fills.{zeros}
-use Rattle.layout.specs.Size.{slots_of, slotsIn}
-use Rattle.layout.specs.Line.{wholeVersion, versionFault}
-use Rattle.layout.specs.Slot.{paired, highestWholeOf, verdictOf, lineVerdict, isValid}
-use Rattle.layout.specs.Record.{keyFrom, key_of, valuePlace, slotWord, valueWord, valueByte, valueFront, value_of}
-use Rattle.layout.specs.Content.{contentOfRecord, contentBy, contentOf, content, highestWholeIn, highestWhole}
-use Rattle.layout.specs.Header.{headerWord, headerFault, imageFault, indexFault, lentFault}
-use Rattle.layout.specs.Fault.{markFault, kindFault, kindLimit, wordFault, tailFault, faultOf, recordFault, bitsFault}
+use Rattle.layout.specs.Size.{slots_of, slots_in}
+use Rattle.layout.specs.Line.{whole_version, version_fault}
+use Rattle.layout.specs.Slot.{paired, highest_whole_of, verdict_of, line_verdict, is_valid}
+use Rattle.layout.specs.Record.{key_from, key_of, value_place, slot_word, value_word, value_byte, value_front, value_of}
+use Rattle.layout.specs.Content.{content_of_record, content_by, content_of, content, highest_whole_in, highest_whole}
+use Rattle.layout.specs.Header.{header_word, header_fault, image_fault, index_fault, lent_fault}
+use Rattle.layout.specs.Fault.{mark_fault, kind_fault, kind_limit, word_fault, tail_fault, fault_of, record_fault, bits_fault}
 use Rattle.stores.specs.Store.{zipped, played, less, standing}
-use Rattle.stores.specs.Written.{marked, placedWord, body_a, bodyB, run, lineStores, recordStores}
-use Rattle.stores.specs.Basket.{basketStores}
-use Rattle.stores.specs.Play.{wordNumbers, values}
-use Rattle.stores.specs.Invalidation.{invalidatingStore, invalidatingStores}
+use Rattle.stores.specs.Written.{marked, placed_word, body_a, body_b, run, line_stores, record_stores}
+use Rattle.stores.specs.Basket.{basket_stores}
+use Rattle.stores.specs.Play.{word_numbers, values}
+use Rattle.stores.specs.Invalidation.{invalidating_store, invalidating_stores}
 use Rattle.sorting.specs.Sorted.{insert, sorted}
-use Rattle.table.specs.Table.{isRecord, keyIn, rankForKey, nextVersion, decider, decidingPut, live, spare, liveCount, isBroken, brokenCount, brokenLimit}
-use Rattle.table.specs.Table.{manyBroken, allLive}
-use Rattle.table.specs.Order.{rank_of, ordered, chainOf, reuseOf}
-use Rattle.table.specs.Complete.{basketSize, sizeFieldFor, hasVersion, sharers, complete, versionIfComplete, highestComplete, isVoid, settled}
-use Rattle.table.specs.Shared.{clashes, sharersFault}
-use Rattle.table.specs.Takeable.{validVersion, highestValid, isRemove, older, mayTake, mayTakeAfter, takeableIf}
-use Rattle.index.specs.Index.{setNext, setStart, setLast, link, noState}
-use Rattle.index.specs.Chained.{first_of, last_of, after, nextIn, chained}
-use Rattle.index.specs.Change.{insertsOf, takeFirst, linkNew, append, keyFault, isFound, insertAt, replaceAt, removeAt}
-use Rattle.index.specs.Walk.{walk, search, chainFault}
-use Rattle.index.specs.Allocation.{withTaken, atEnd, allocationWalk, allocateFrom, endsFault, linkFault, fewFault, reuseFault, roomFault}
-use Rattle.index.specs.Basket.{takeSlot, takeAll, takenSlots, slotBefore, beforeIn, linkBy, linkItem, linkAll, basketIndex}
+use Rattle.table.specs.Table.{is_record, key_in, rank_for_key, next_version, decider, deciding_put, live, spare, live_count, is_broken, broken_count, broken_limit}
+use Rattle.table.specs.Table.{many_broken, all_live}
+use Rattle.table.specs.Order.{rank_of, ordered, chain_of, reuse_of}
+use Rattle.table.specs.Complete.{basket_size, size_field_for, has_version, sharers, complete, version_if_complete, highest_complete, is_void, settled}
+use Rattle.table.specs.Shared.{clashes, sharers_fault}
+use Rattle.table.specs.Takeable.{valid_version, highest_valid, is_remove, older, may_take, may_take_after, takeable_if}
+use Rattle.index.specs.Index.{set_next, set_start, set_last, link, no_state}
+use Rattle.index.specs.Chained.{first_of, last_of, after, next_in, chained}
+use Rattle.index.specs.Change.{inserts_of, take_first, link_new, append, key_fault, is_found, insert_at, replace_at, remove_at}
+use Rattle.index.specs.Walk.{walk, search, chain_fault}
+use Rattle.index.specs.Allocation.{with_taken, at_end, allocation_walk, allocate_from, ends_fault, link_fault, few_fault, reuse_fault, room_fault}
+use Rattle.index.specs.Basket.{take_slot, all_taken_of, taken_slots, slot_before, before_in, link_by, link_item, link_all, basket_index}
 use Rattle.index.specs.declared.Action.{Action}
 use Rattle.index.specs.declared.Mode.TheVariants.{Insert}
-use Rattle.allocation.specs.Allocation.{allocationByRule, allocationChosen, allocationChosenBy, allocationBy, mayTakeBelow, namedVersion, ownAllocation}
-use Rattle.recovery.specs.Recover.{slotsFault, recoverFault, chainsOf, place_of, recoveredIndex, recovered, recoverResult, settledFault, slotsNamed, recoverSlot}
-use Rattle.recovery.specs.Invalidation.{voidSlots, invalidationsOf, storesIn}
+use Rattle.allocation.specs.Allocation.{allocation_by_rule, allocation_chosen, allocation_chosen_by, allocation_by, may_take_below, named_version, own_allocation}
+use Rattle.recovery.specs.Recover.{slots_fault, recover_fault, chains_of, place_of, recovered_index, recovered, recover_result, settled_fault, slots_named, recover_slot}
+use Rattle.recovery.specs.Invalidation.{void_slots, invalidations_of, stores_in}
 use Rattle.calls.specs.Format.{formatted}
-use Rattle.calls.specs.Change.{changed, writeLentFault, writeLaterFault, writeFault, writeDone, writeUnless, writeResult, storeFault, writeFaultBy}
-use Rattle.calls.specs.Change.{writeResultBy}
+use Rattle.calls.specs.Change.{changed, write_lent_fault, write_later_fault, write_fault, write_done, write_unless, write_result, store_fault, write_fault_by}
+use Rattle.calls.specs.Change.{write_result_by}
 use Rattle.calls.specs.Result.{unchanged}
-use Rattle.calls.specs.BasketItems.{highIn, itemKey, item_at, itemValue, changeAt, changesFrom, changesOf}
-use Rattle.calls.specs.BasketRefusals.{keyCountFault, among, anyTwice, listsFault, givenFault, firstFault, valueFault, actionFault, basketLentFault}
-use Rattle.calls.specs.BasketRefusals.{keysFault, insertsBy, removesBy, sumOver, basketFault, basketFaultBy}
-use Rattle.calls.specs.Get.{lengthFault, getLaterFault, getFault, getDone, getResult}
-use Rattle.calls.specs.Basket.{kindBy, valueBy, recordsFor, oldIn, itemsFor, index_after, basketMade, basketDone, basketUnless, basketResult, basketResultBy}
+use Rattle.calls.specs.BasketItems.{high_in, item_key, item_at, item_value, change_at, changes_from, changes_of}
+use Rattle.calls.specs.BasketRefusals.{key_count_fault, among, any_twice, lists_fault, given_fault, first_fault, value_fault, action_fault, basket_lent_fault}
+use Rattle.calls.specs.BasketRefusals.{keys_fault, inserts_by, removes_by, sum_over, basket_fault, basket_fault_by}
+use Rattle.calls.specs.Get.{length_fault, get_later_fault, get_fault, get_done, get_result}
+use Rattle.calls.specs.Basket.{kind_by, value_by, records_for, old_in, items_for, index_after, basket_made, basket_done, basket_unless, basket_result, basket_result_by}
 use Rattle.calls.specs.declared.BasketItem.{BasketItem}
-use Rattle.plainmap.specs.World.{write, callResult, callResultBy, worldAfter, afterRound, afterRounds, invalidatedWorld, restarted, readsOnly}
-use Rattle.plainmap.specs.Baskets.{TypedItem, basketCallResultBy}
-use Rattle.plainmap.specs.Claims.{Typed, write-typed, get_typed, slotsMap}
-use Rattle.interface.specs.Event.{RestartFits, done-fits, struck-fits, FitsBy, stepBy, imageCut}
-use Rattle.interface.proofs.SetLaws.{layout-1, call-laws}
-use Rattle.cut_rule.specs.Request.{a-basket, TypedRequest, requestEffects}
+use Rattle.plainmap.specs.World.{write, call_result, call_result_by, world_after, after_round, after_rounds, invalidated_world, restarted, reads_only}
+use Rattle.plainmap.specs.Baskets.{TypedItem, basket_call_result_by}
+use Rattle.plainmap.specs.Claims.{Typed, write_typed, get_typed, slots_map}
+use Rattle.interface.specs.Event.{RestartFits, done_fits, struck_fits, FitsBy, step_by, image_cut}
+use Rattle.interface.proofs.SetLaws.{layout_1, call_laws}
+use Rattle.cut_rule.specs.Request.{a_basket, TypedRequest, request_effects}
 use Rattle.cut_rule.specs.Rule.{HistoryCorrect}
-use Rattle.cut_rule.proofs.CutRule.{cut-rule}
-use Rattle.examples.specs.Trial.{small, oneHead, recovering}
-use Rattle.examples.specs.TornBasket.{answerTo, answersTo, item, eightyBytes, basketBytes, basketGiven, threeItems, twoItems, fourSlots, tearing}
-use Rattle.examples.specs.TornBasket.{invalidationCut, twoCuts, emptyFour, afterTearing, tornHistory, tornAnswers, tornImage, voidCount}
+use Rattle.cut_rule.proofs.CutRule.{cut_rule}
+use Rattle.examples.specs.Trial.{small, one_head, recovering}
+use Rattle.examples.specs.TornBasket.{answer_to, answers_to, item, eighty_bytes, basket_bytes, basket_given, three_items, two_items, four_slots, tearing}
+use Rattle.examples.specs.TornBasket.{invalidation_cut, two_cuts, empty_four, after_tearing, torn_history, torn_answers, torn_image, void_count}
 use Rattle.examples.proofs.Trial.{small_bytes}
 
 -- the answers; the void records after each of the two cuts; recovery accepts the formatted image, which has four slots
-torn-computed : (answersTo emptyFour tornHistory ≡ tornAnswers) × (voidCount tornImage ≡ 2) × (voidCount (afterRound 1 tornImage invalidationCut) ≡ 1)
-    × (recoverFault 1 (formatted 1 640) (length oneHead) (length fourSlots) ≡ 0) × (slotsIn (formatted 1 640) ≡ 4)
-unfolding word setBytes setWord filter slotNumbers any_of tabulate greatest topmost lowest atLowest count refuseIf or_else unlessRefused contentOfRecord
-    contentBy contentOf content highestWhole highestWholeIn markFault kindFault kindLimit bitsFault wordFault tailFault faultOf recordFault headerWord
-    headerFault imageFault indexFault lentFault wholeVersion versionFault keyFrom key_of valuePlace slotWord valueWord valueByte valueFront value_of slots_of
-    paired highestWholeOf verdictOf lineVerdict isValid insert sorted invalidatingStore invalidatingStores wordNumbers values zipped played less standing
-    marked placedWord body_a bodyB run lineStores recordStores basketSize hasVersion sharers complete versionIfComplete highestComplete isVoid settled rank_of
-    ordered chainOf reuseOf clashes sharersFault isRecord isBroken keyIn rankForKey nextVersion decider decidingPut live spare liveCount brokenCount
-    brokenLimit manyBroken allLive validVersion highestValid isRemove older mayTake first_of last_of after nextIn chained takeFirst linkNew append insertAt
-    replaceAt removeAt keyFault isFound setNext setStart setLast link withTaken atEnd allocationWalk allocateFrom endsFault linkFault fewFault reuseFault
-    roomFault walk search chainFault allocationByRule voidSlots invalidationsOf storesIn noState settledFault slotsFault slotsNamed recoverFault recoverSlot
-    chainsOf place_of recoveredIndex recovered recoverResult unchanged storeFault changed writeLentFault insertsOf writeLaterFault writeFaultBy allocationBy
-    writeDone writeUnless writeResultBy formatted lengthFault getLaterFault getFault getDone getResult readsOnly callResult callResultBy worldAfter afterRound
-    afterRounds invalidatedWorld restarted imageCut stepBy takeableIf highIn itemKey item_at itemValue changeAt changesFrom changesOf keyCountFault among
-    anyTwice listsFault givenFault firstFault valueFault actionFault basketLentFault keysFault insertsBy removesBy sumOver basketFaultBy kindBy valueBy
-    recordsFor oldIn itemsFor index_after basketMade basketDone basketUnless basketResultBy allocationChosenBy basketCallResultBy ownAllocation mayTakeBelow
-    namedVersion takeSlot takeAll takenSlots slotBefore beforeIn linkBy linkItem linkAll basketIndex basketStores sizeFieldFor allocationChosen mayTakeAfter
-    anyIn answerTo answersTo item eightyBytes basketBytes basketGiven threeItems twoItems fourSlots tearing invalidationCut twoCuts emptyFour afterTearing
-    tornHistory tornAnswers tornImage voidCount small oneHead recovering requestEffects
-torn-computed = (refl, refl, refl, refl, refl)
+torn_computed : (answers_to empty_four torn_history ≡ torn_answers) × (void_count torn_image ≡ 2) × (void_count (after_round 1 torn_image invalidation_cut) ≡ 1)
+    × (recover_fault 1 (formatted 1 640) (length one_head) (length four_slots) ≡ 0) × (slots_in (formatted 1 640) ≡ 4)
+unfolding word set_bytes set_word filter slot_numbers any_of tabulate greatest topmost lowest at_lowest count refuse_if or_else unless_refused content_of_record
+    content_by content_of content highest_whole highest_whole_in mark_fault kind_fault kind_limit bits_fault word_fault tail_fault fault_of record_fault header_word
+    header_fault image_fault index_fault lent_fault whole_version version_fault key_from key_of value_place slot_word value_word value_byte value_front value_of slots_of
+    paired highest_whole_of verdict_of line_verdict is_valid insert sorted invalidating_store invalidating_stores word_numbers values zipped played less standing
+    marked placed_word body_a body_b run line_stores record_stores basket_size has_version sharers complete version_if_complete highest_complete is_void settled rank_of
+    ordered chain_of reuse_of clashes sharers_fault is_record is_broken key_in rank_for_key next_version decider deciding_put live spare live_count broken_count
+    broken_limit many_broken all_live valid_version highest_valid is_remove older may_take first_of last_of after next_in chained take_first link_new append insert_at
+    replace_at remove_at key_fault is_found set_next set_start set_last link with_taken at_end allocation_walk allocate_from ends_fault link_fault few_fault reuse_fault
+    room_fault walk search chain_fault allocation_by_rule void_slots invalidations_of stores_in no_state settled_fault slots_fault slots_named recover_fault recover_slot
+    chains_of place_of recovered_index recovered recover_result unchanged store_fault changed write_lent_fault inserts_of write_later_fault write_fault_by allocation_by
+    write_done write_unless write_result_by formatted length_fault get_later_fault get_fault get_done get_result reads_only call_result call_result_by world_after after_round
+    after_rounds invalidated_world restarted image_cut step_by takeable_if high_in item_key item_at item_value change_at changes_from changes_of key_count_fault among
+    any_twice lists_fault given_fault first_fault value_fault action_fault basket_lent_fault keys_fault inserts_by removes_by sum_over basket_fault_by kind_by value_by
+    records_for old_in items_for index_after basket_made basket_done basket_unless basket_result_by allocation_chosen_by basket_call_result_by own_allocation may_take_below
+    named_version take_slot all_taken_of taken_slots slot_before before_in link_by link_item link_all basket_index basket_stores size_field_for allocation_chosen may_take_after
+    any_in answer_to answers_to item eighty_bytes basket_bytes basket_given three_items two_items four_slots tearing invalidation_cut two_cuts empty_four after_tearing
+    torn_history torn_answers torn_image void_count small one_head recovering request_effects
+torn_computed = (refl, refl, refl, refl, refl)
 
 -- THE ANSWERS
-pub torn-answers : answersTo emptyFour tornHistory ≡ tornAnswers
-torn-answers = torn-computed.0
+pub torn-answers : answers_to empty_four torn_history ≡ torn_answers
+torn-answers = torn_computed.0
 
 -- THE VOID RECORDS: two after the first cut, and one after the second
-pub torn-voids : (voidCount tornImage ≡ 2) × (voidCount (afterRound 1 tornImage invalidationCut) ≡ 1)
-torn-voids = (torn-computed.1, torn-computed.2)
+pub torn_voids : (void_count torn_image ≡ 2) × (void_count (after_round 1 torn_image invalidation_cut) ≡ 1)
+torn_voids = (torn_computed.1, torn_computed.2)
 
 -- ---- the hypotheses of the cut rule
 
-right-size : indexFault 4 (length oneHead) (length fourSlots) ≡ 0
-unfolding indexFault refuseIf oneHead fourSlots
-right-size = refl
+right_size : index_fault 4 (length one_head) (length four_slots) ≡ 0
+unfolding index_fault refuse_if one_head four_slots
+right_size = refl
 
-start_fits : RestartFits 4 (recovering fourSlots)
+start_fits : RestartFits 4 (recovering four_slots)
 unfolding recovering
-start_fits = record { rounds = none_left; size = right-size }
+start_fits = record { rounds = none_left; size = right_size }
 
-cuts_fit : RestartFits 4 twoCuts.restart
-unfolding twoCuts invalidationCut
-cuts_fit = record { rounds = one_more right-size none_left; size = right-size }
+cuts_fit : RestartFits 4 two_cuts.restart
+unfolding two_cuts invalidation_cut
+cuts_fit = record { rounds = one_more right_size none_left; size = right_size }
 
 -- bytes
-bytes-append : (xs ys : List ℕ) → AreBytes xs → AreBytes ys → AreBytes (xs ++ ys)
-bytes-append [] ys a b k = b k
-bytes-append (x ∷ xs) ys a b zero = a 0
-bytes-append (x ∷ xs) ys a b (suc k) = bytes-append xs ys (λ i. a (suc i)) b k
+bytes_append : (xs ys : List ℕ) → AreBytes xs → AreBytes ys → AreBytes (xs ++ ys)
+bytes_append [] ys a b k = b k
+bytes_append (x ∷ xs) ys a b zero = a 0
+bytes_append (x ∷ xs) ys a b (suc k) = bytes_append xs ys (λ i. a (suc i)) b k
 
-zero-bytes : (n : ℕ) → AreBytes (replicate n 0)
-zero-bytes n k = omega (arith, zeros n k)
+zero_bytes : (n : ℕ) → AreBytes (replicate n 0)
+zero_bytes n k = omega (arith, zeros n k)
 
-eighty-bytes : (n : ℕ) → n < 256 → AreBytes (eightyBytes n)
-unfolding eightyBytes
-eighty-bytes n h = bytes-append (small n) (replicate 72 0) (small_bytes n h) (zero-bytes 72)
+eighty-bytes : (n : ℕ) → n < 256 → AreBytes (eighty_bytes n)
+unfolding eighty_bytes
+eighty-bytes n h = bytes_append (small n) (replicate 72 0) (small_bytes n h) (zero_bytes 72)
 
-basket-bytes : AreBytes basketBytes
-unfolding basketBytes
+basket-bytes : AreBytes basket_bytes
+unfolding basket_bytes
 basket-bytes =
-    bytes-append (eightyBytes 1) (eightyBytes 2 ++ (eightyBytes 3 ++ replicate 400 0)) (eighty-bytes 1 (omega arith))
-    (bytes-append (eightyBytes 2) (eightyBytes 3 ++ replicate 400 0) (eighty-bytes 2 (omega arith))
-    (bytes-append (eightyBytes 3) (replicate 400 0) (eighty-bytes 3 (omega arith)) (zero-bytes 400)))
+    bytes_append (eighty_bytes 1) (eighty_bytes 2 ++ (eighty_bytes 3 ++ replicate 400 0)) (eighty-bytes 1 (omega arith))
+    (bytes_append (eighty_bytes 2) (eighty_bytes 3 ++ replicate 400 0) (eighty-bytes 2 (omega arith))
+    (bytes_append (eighty_bytes 3) (replicate 400 0) (eighty-bytes 3 (omega arith)) (zero_bytes 400)))
 
-item-typed : (action : Action) (key : ℕ) → key < 256 → TypedItem (item action key)
+item_typed : (action : Action) (key : ℕ) → key < 256 → TypedItem (item action key)
 unfolding item
-item-typed action key h = record { low_word = omega arith; high_word = omega arith }
+item_typed action key h = record { low_word = omega arith; high_word = omega arith }
 
-item-many : (n : ℕ) (k : BasketItem) → TypedItem k → All TypedItem (replicate n k)
-item-many zero k t = none_left
-item-many (suc n) k t = one_more t (item-many n k t)
+item_many : (n : ℕ) (k : BasketItem) → TypedItem k → All TypedItem (replicate n k)
+item_many zero k t = none_left
+item_many (suc n) k t = one_more t (item_many n k t)
 
-three-typed : All TypedItem threeItems
-unfolding threeItems
-three-typed =
-    one_more (item-typed _ 7 (omega arith)) (one_more (item-typed _ 8 (omega arith)) (one_more (item-typed _ 9 (omega arith))
-    (item-many 5 _ (item-typed _ 0 (omega arith)))))
+three_typed : All TypedItem three_items
+unfolding three_items
+three_typed =
+    one_more (item_typed _ 7 (omega arith)) (one_more (item_typed _ 8 (omega arith)) (one_more (item_typed _ 9 (omega arith))
+    (item_many 5 _ (item_typed _ 0 (omega arith)))))
 
-two_typed : All TypedItem twoItems
-unfolding twoItems
-two_typed = one_more (item-typed _ 8 (omega arith)) (one_more (item-typed _ 7 (omega arith)) (item-many 6 _ (item-typed _ 0 (omega arith))))
+two_typed : All TypedItem two_items
+unfolding two_items
+two_typed = one_more (item_typed _ 8 (omega arith)) (one_more (item_typed _ 7 (omega arith)) (item_many 6 _ (item_typed _ 0 (omega arith))))
 
-basket-typed : (own : Bool) (count : ℕ) (items : List BasketItem) → All TypedItem items → TypedRequest 1 (a-basket own (basketGiven count items))
-unfolding basketGiven
-basket-typed own count items typed = (call-laws 1 layout-1).changes-typed items basketBytes typed basket-bytes count
+basket_typed : (own : Bool) (count : ℕ) (items : List BasketItem) → All TypedItem items → TypedRequest 1 (a_basket own (basket_given count items))
+unfolding basket_given
+basket_typed own count items typed = (call_laws 1 layout_1).changes_typed items basket_bytes typed basket-bytes count
 
-insert-typed : Typed 1 (write Insert 8 (small 5))
-insert-typed = write-typed {key = 8} (omega arith) (small_bytes 5 (omega arith))
+insert_typed : Typed 1 (write Insert 8 (small 5))
+insert_typed = write_typed {key = 8} (omega arith) (small_bytes 5 (omega arith))
 
-torn-fits : All (FitsBy (TypedRequest 1) 4) tornHistory
-unfolding tornHistory afterTearing
-torn-fits =
-    one_more (struck-fits (basket-typed true 3 threeItems three-typed) cuts_fit)
-    (one_more (done-fits get_typed) (one_more (done-fits insert-typed)
-    (one_more (done-fits (basket-typed false 2 twoItems two_typed)) (one_more (done-fits get_typed) (one_more (done-fits get_typed) none_left)))))
+torn_fits : All (FitsBy (TypedRequest 1) 4) torn_history
+unfolding torn_history after_tearing
+torn_fits =
+    one_more (struck_fits (basket_typed true 3 three_items three_typed) cuts_fit)
+    (one_more (done_fits get_typed) (one_more (done_fits insert_typed)
+    (one_more (done_fits (basket_typed false 2 two_items two_typed)) (one_more (done_fits get_typed) (one_more (done_fits get_typed) none_left)))))
 
 -- AN INSTANCE of the cut rule
-pub torn-holds : HistoryCorrect 1 emptyFour (slotsMap 1 (formatted 1 640)) tornHistory
-unfolding emptyFour recovering
-torn-holds =
-    (cut-rule 1 layout-1 (formatted 1 640) (recovering fourSlots)
-    ((call-laws 1 layout-1).accepted (formatted 1 640) (length oneHead) (length fourSlots) torn-computed.3) (rw torn-computed.4 start_fits) tornHistory
-    (rw torn-computed.4 torn-fits)).1
+pub torn_holds : HistoryCorrect 1 empty_four (slots_map 1 (formatted 1 640)) torn_history
+unfolding empty_four recovering
+torn_holds =
+    (cut_rule 1 layout_1 (formatted 1 640) (recovering four_slots)
+    ((call_laws 1 layout_1).accepted (formatted 1 640) (length one_head) (length four_slots) torn_computed.3) (rw torn_computed.4 start_fits) torn_history
+    (rw torn_computed.4 torn_fits)).1

@@ -4,5 +4,5 @@ use Rattle.std.specs.Prelude.{List, ℕ, get_or}
 use Rattle.interface.specs.Set.{Invalidations}
 
 -- their count stands in one lent slice, the word numbers in another, and the values in a third
-unfoldable pub invalidationsFrom : (count at value : List ℕ) → Invalidations
-invalidationsFrom count at value = record { count = get_or count 0 0; at = at; value = value }
+unfoldable pub invalidations_from : (count at value : List ℕ) → Invalidations
+invalidations_from count at value = record { count = get_or count 0 0; at = at; value = value }

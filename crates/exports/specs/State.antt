@@ -4,8 +4,8 @@ use Rattle.std.specs.Prelude.{List, ℕ, get_or}
 use Rattle.interface.specs.Set.{State}
 
 -- first, last, live count and the newest slot stand in one lent slice, the next version in another
-unfoldable pub stateFrom : (state version : List ℕ) → State
-stateFrom state version =
+unfoldable pub state_from : (state version : List ℕ) → State
+state_from state version =
     record {
       first = get_or state 0 0;
       last = get_or state 1 0;

@@ -1,8 +1,8 @@
 // Answers as a return code and lent numbers.
 ghost use Rattle.std.specs.Prelude.{◌≡◌, ◌*◌};
-ghost use Rattle.interface.specs.Set.{changeSays, getSays, locateSays};
-ghost use Rattle.exports.specs.State.{stateFrom};
-ghost use Rattle.exports.specs.Call.{answeredWith, returnedWith};
+ghost use Rattle.interface.specs.Set.{change_says, get_says, locate_says};
+ghost use Rattle.exports.specs.State.{state_from};
+ghost use Rattle.exports.specs.Call.{answered_with, returned_with};
 
 use exports_code::refusal::refused_with;
 use exports_code::state::keep_state;
@@ -15,9 +15,9 @@ pub fn write_answer(
     version: &mut [u64; 1],
     answer: &mut [u64; 4],
 ) -> u64
-    ensures result { (result ≡ returnedWith (changeSays change.outcome) change.compared) ×
-        (answer.new ≡ answeredWith 3 (changeSays change.outcome) change.compared answer.old) ×
-        (stateFrom state.new version.new ≡ change.state) }
+    ensures result { (result ≡ returned_with (change_says change.outcome) change.compared) ×
+        (answer.new ≡ answered_with 3 (change_says change.outcome) change.compared answer.old) ×
+        (state_from state.new version.new ≡ change.state) }
 {
     let after = change.state;
     keep_state(after, state, version);
@@ -40,8 +40,8 @@ pub fn write_answer(
 
 // What a get gives back goes into the lent numbers.
 pub fn write_answer_got(r: GetAnswer, answer: &mut [u64; 3]) -> u64
-    ensures result { (result ≡ returnedWith (getSays r.got) r.compared) ×
-        (answer.new ≡ answeredWith 2 (getSays r.got) r.compared answer.old) }
+    ensures result { (result ≡ returned_with (get_says r.got) r.compared) ×
+        (answer.new ≡ answered_with 2 (get_says r.got) r.compared answer.old) }
 {
     let got = r.got;
     match got {
@@ -59,8 +59,8 @@ pub fn write_answer_got(r: GetAnswer, answer: &mut [u64; 3]) -> u64
 
 // What a locate gives back goes into the lent numbers.
 pub fn write_answer_located(r: LocateAnswer, answer: &mut [u64; 4]) -> u64
-    ensures result { (result ≡ returnedWith (locateSays r.located) r.compared) ×
-        (answer.new ≡ answeredWith 3 (locateSays r.located) r.compared answer.old) }
+    ensures result { (result ≡ returned_with (locate_says r.located) r.compared) ×
+        (answer.new ≡ answered_with 3 (locate_says r.located) r.compared answer.old) }
 {
     let located = r.located;
     match located {

@@ -1,9 +1,9 @@
 // What recovery gives back, in lent numbers.
 ghost use Rattle.std.specs.Prelude.{◌≡◌, List, ℕ};
-ghost use Rattle.interface.specs.Set.{recoverEnd};
-ghost use Rattle.exports.specs.State.{stateFrom};
-ghost use Rattle.exports.specs.Invalidation.{invalidationsFrom};
-ghost use Rattle.exports.specs.Call.{recoverLeft, recoverCall};
+ghost use Rattle.interface.specs.Set.{recover_end};
+ghost use Rattle.exports.specs.State.{state_from};
+ghost use Rattle.exports.specs.Invalidation.{invalidations_from};
+ghost use Rattle.exports.specs.Call.{recover_left, recover_call};
 
 use exports_code::refusal::refused_with;
 use exports_code::state::keep_state;
@@ -16,7 +16,7 @@ fn keep_invalidations(
     at: &mut [u32; 8],
     value: &mut [u64; 8],
 )
-    ensures { invalidationsFrom count.new at.new value.new ≡ invalidations }
+    ensures { invalidations_from count.new at.new value.new ≡ invalidations }
 {
     let words = invalidations.at;
     let values = invalidations.value;
@@ -34,10 +34,10 @@ pub fn write_answer_recovered(
     at: &mut [u32; 8],
     value: &mut [u64; 8],
 ) -> u64
-    ensures result { (heads next : List ℕ) → recoverLeft result (stateFrom state.new version.new)
-        (invalidationsFrom count.new at.new value.new) heads next ≡ recoverCall
-        (recoverEnd answer.recovered answer.invalidations heads next) (stateFrom state.old version.old)
-        (invalidationsFrom count.old at.old value.old) }
+    ensures result { (heads next : List ℕ) → recover_left result (state_from state.new version.new)
+        (invalidations_from count.new at.new value.new) heads next ≡ recover_call
+        (recover_end answer.recovered answer.invalidations heads next) (state_from state.old version.old)
+        (invalidations_from count.old at.old value.old) }
 {
     let recovered = answer.recovered;
     let invalidations = answer.invalidations;

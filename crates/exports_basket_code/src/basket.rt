@@ -1,10 +1,10 @@
 // A basket by lent numbers: what is asked, and what is handed out.
 ghost use Rattle.std.specs.Prelude.{◌≡◌, length, List, ◌∷◌, ℕ, ◌≤◌, ◌<◌};
-ghost use Rattle.prelude.specs.Answer.{refusalIn};
-ghost use Rattle.interface.specs.Set.{layoutNumber, basketSays, buffersAfterLists, changesOf, basketResultBy, index_of};
-ghost use Rattle.exports.specs.State.{stateFrom};
-ghost use Rattle.exports.specs.Basket.{isKind, actionOf, unknownKind, keysAsked, givenItem, givenItems, basketAnswered};
-ghost use Rattle.exports.specs.Basket.{basketCallLeft, basketCall};
+ghost use Rattle.prelude.specs.Answer.{refusal_in};
+ghost use Rattle.interface.specs.Set.{layout_number, basket_says, buffers_after_lists, changes_of, basket_result_by, index_of};
+ghost use Rattle.exports.specs.State.{state_from};
+ghost use Rattle.exports.specs.Basket.{is_kind, action_of, unknown_kind, keys_asked, given_item, given_items, basket_answered};
+ghost use Rattle.exports.specs.Basket.{basket_call_left, basket_call};
 
 use exports_code::state::{keep_state, state_from};
 use orderset::layouts::basket_in_layout;
@@ -12,7 +12,7 @@ use orderset::{Action, BasketAnswer, BasketItem, BasketOutcome, Mode};
 
 // Is it one of the three kinds?
 fn is_kind(kind: u32) -> bool
-    ensures { result ≡ isKind kind }
+    ensures { result ≡ is_kind kind }
 {
     if kind == 1 {
         return true;
@@ -25,7 +25,7 @@ fn is_kind(kind: u32) -> bool
 
 // What is asked by one of the three kinds.
 fn action_of(kind: u32) -> Action
-    ensures { result ≡ actionOf kind }
+    ensures { result ≡ action_of kind }
 {
     if kind == 1 {
         return Action::Write(Mode::Insert);
@@ -39,7 +39,7 @@ fn action_of(kind: u32) -> Action
 // Is one of the first kinds none of the three?
 fn unknown_kind(kinds: &[u32; 8], count: usize) -> bool
     requires { count ≤ 8 }
-    ensures { result ≡ unknownKind kinds.now count }
+    ensures { result ≡ unknown_kind kinds.now count }
 {
     let mut i = 0;
     while i < count {
@@ -53,7 +53,7 @@ fn unknown_kind(kinds: &[u32; 8], count: usize) -> bool
 
 // The number of keys, 0 for a basket that is refused by its count or its kinds.
 fn keys_asked(count: usize, kinds: &[u32; 8]) -> usize
-    ensures { result ≡ keysAsked count kinds.now }
+    ensures { result ≡ keys_asked count kinds.now }
 {
     if 8 < count {
         return 0;
@@ -73,7 +73,7 @@ fn given_item(
     i: usize,
 ) -> BasketItem
     requires { i < 8 }
-    ensures { result ≡ givenItem kinds.now lows.now highs.now lengths.now i }
+    ensures { result ≡ given_item kinds.now lows.now highs.now lengths.now i }
 {
     BasketItem {
         action: action_of(kinds[i]),
@@ -90,7 +90,7 @@ fn given_items(
     highs: &[u64; 8],
     lengths: &[usize; 8],
 ) -> [BasketItem; 8]
-    ensures { result ≡ givenItems kinds.now lows.now highs.now lengths.now }
+    ensures { result ≡ given_items kinds.now lows.now highs.now lengths.now }
 {
     [
         given_item(kinds, lows, highs, lengths, 0),
@@ -135,9 +135,9 @@ fn write_answer_basket(
     version: &mut [u64; 1],
     answer: &mut [u64; 9],
 ) -> u32
-    ensures { (taken : List ℕ) → (result ≡ refusalIn (basketSays taken basket.outcome)) ×
-        (answer.new ≡ basketAnswered (basketSays taken basket.outcome) basket.slots answer.old) ×
-        (stateFrom state.new version.new ≡ basket.state) }
+    ensures { (taken : List ℕ) → (result ≡ refusal_in (basket_says taken basket.outcome)) ×
+        (answer.new ≡ basket_answered (basket_says taken basket.outcome) basket.slots answer.old) ×
+        (state_from state.new version.new ≡ basket.state) }
 {
     let after = basket.state;
     let slots = basket.slots;
@@ -172,14 +172,14 @@ pub fn basket_call(
     answer: &mut [u64; 9],
     own: bool,
 ) -> u32
-    ensures result { basketCallLeft result answer.new (stateFrom state.new version.new) at.new
+    ensures result { basket_call_left result answer.new (state_from state.new version.new) at.new
         value.new heads.new next.new
-        ≡ basketCall
-        (buffersAfterLists at.old value.old
-        (basketResultBy own (layoutNumber wide) image.now
-        (index_of heads.old next.old (stateFrom state.old version.old))
-        (changesOf (layoutNumber wide) (keysAsked count kinds.now)
-        (givenItems kinds.now lows.now highs.now lengths.now) values.now)
+        ≡ basket_call
+        (buffers_after_lists at.old value.old
+        (basket_result_by own (layout_number wide) image.now
+        (index_of heads.old next.old (state_from state.old version.old))
+        (changes_of (layout_number wide) (keys_asked count kinds.now)
+        (given_items kinds.now lows.now highs.now lengths.now) values.now)
         (length at.old) (length value.old)))
         answer.old }
 {

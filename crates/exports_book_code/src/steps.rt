@@ -1,11 +1,11 @@
 // The steps of the order book with lent numbers: with `wide` in layout 2, with `own` for the owner of the index.
 ghost use Rattle.std.specs.Prelude.{◌≡◌};
-ghost use Rattle.interface.specs.Set.{layoutNumber, keyWith, zipped, index_of};
-ghost use Rattle.book.specs.Plain.{refusalNumber};
-ghost use Rattle.book.specs.Steps.{bookSays, newResultBy, acknowledgeResultBy, fillResultBy, withdrawResultBy};
-ghost use Rattle.exports.specs.State.{stateFrom};
-ghost use Rattle.exports.specs.Call.{changeLeft};
-ghost use Rattle.exports.specs.Book.{bookAnswered, bookCall};
+ghost use Rattle.interface.specs.Set.{layout_number, key_with, zipped, index_of};
+ghost use Rattle.book.specs.Plain.{refusal_number};
+ghost use Rattle.book.specs.Steps.{book_says, new_result_by, acknowledge_result_by, fill_result_by, withdraw_result_by};
+ghost use Rattle.exports.specs.State.{state_from};
+ghost use Rattle.exports.specs.Call.{change_left};
+ghost use Rattle.exports.specs.Book.{book_answered, book_call};
 
 use book::{BookChange, BookOutcome};
 use book_change_code::layouts::{
@@ -20,9 +20,9 @@ fn write_answer_step(
     version: &mut [u64; 1],
     answer: &mut [u64; 3],
 ) -> u32
-    ensures { (result ≡ refusalNumber (bookSays change.outcome)) ×
-        (answer.new ≡ bookAnswered (bookSays change.outcome) answer.old) ×
-        (stateFrom state.new version.new ≡ change.state) }
+    ensures { (result ≡ refusal_number (book_says change.outcome)) ×
+        (answer.new ≡ book_answered (book_says change.outcome) answer.old) ×
+        (state_from state.new version.new ≡ change.state) }
 {
     let after = change.state;
     keep_state(after, state, version);
@@ -62,11 +62,11 @@ pub fn new_call(
     answer: &mut [u64; 3],
     own: bool,
 ) -> u32
-    ensures result { changeLeft result answer.new (stateFrom state.new version.new)
+    ensures result { change_left result answer.new (state_from state.new version.new)
         (zipped at.new value.new) heads.new next.new
-        ≡ bookCall
-        (newResultBy own (layoutNumber wide) image.now
-        (index_of heads.old next.old (stateFrom state.old version.old)) (keyWith low high) quantity)
+        ≡ book_call
+        (new_result_by own (layout_number wide) image.now
+        (index_of heads.old next.old (state_from state.old version.old)) (key_with low high) quantity)
         answer.old (zipped at.old value.old) }
 {
     let before = state_from(state, version);
@@ -92,11 +92,11 @@ pub fn acknowledge_call(
     answer: &mut [u64; 3],
     own: bool,
 ) -> u32
-    ensures result { changeLeft result answer.new (stateFrom state.new version.new)
+    ensures result { change_left result answer.new (state_from state.new version.new)
         (zipped at.new value.new) heads.new next.new
-        ≡ bookCall
-        (acknowledgeResultBy own (layoutNumber wide) image.now
-        (index_of heads.old next.old (stateFrom state.old version.old)) (keyWith low high))
+        ≡ book_call
+        (acknowledge_result_by own (layout_number wide) image.now
+        (index_of heads.old next.old (state_from state.old version.old)) (key_with low high))
         answer.old (zipped at.old value.old) }
 {
     let before = state_from(state, version);
@@ -120,11 +120,11 @@ pub fn fill_call(
     answer: &mut [u64; 3],
     own: bool,
 ) -> u32
-    ensures result { changeLeft result answer.new (stateFrom state.new version.new)
+    ensures result { change_left result answer.new (state_from state.new version.new)
         (zipped at.new value.new) heads.new next.new
-        ≡ bookCall
-        (fillResultBy own (layoutNumber wide) image.now
-        (index_of heads.old next.old (stateFrom state.old version.old)) (keyWith low high) quantity)
+        ≡ book_call
+        (fill_result_by own (layout_number wide) image.now
+        (index_of heads.old next.old (state_from state.old version.old)) (key_with low high) quantity)
         answer.old (zipped at.old value.old) }
 {
     let before = state_from(state, version);
@@ -149,11 +149,11 @@ pub fn withdraw_call(
     answer: &mut [u64; 3],
     own: bool,
 ) -> u32
-    ensures result { changeLeft result answer.new (stateFrom state.new version.new)
+    ensures result { change_left result answer.new (state_from state.new version.new)
         (zipped at.new value.new) heads.new next.new
-        ≡ bookCall
-        (withdrawResultBy own (layoutNumber wide) image.now
-        (index_of heads.old next.old (stateFrom state.old version.old)) (keyWith low high))
+        ≡ book_call
+        (withdraw_result_by own (layout_number wide) image.now
+        (index_of heads.old next.old (state_from state.old version.old)) (key_with low high))
         answer.old (zipped at.old value.old) }
 {
     let before = state_from(state, version);

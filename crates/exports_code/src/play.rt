@@ -1,12 +1,12 @@
 // Play, with lent numbers for the sixteen stores.
 ghost use Rattle.std.specs.Prelude.{◌≡◌};
-ghost use Rattle.interface.specs.Set.{playEnd, playResult};
+ghost use Rattle.interface.specs.Set.{play_end, play_result};
 
 use orderset::{Stores, play};
 
 // The first a stores of the first half and the first b of the second are made.
 pub fn play_lent(image: &mut [u8], at: &[u32; 16], value: &[u64; 16], a: usize, b: usize) -> u32
-    ensures result { playEnd result image.new ≡ playResult image.old at.now value.now a b }
+    ensures result { play_end result image.new ≡ play_result image.old at.now value.now a b }
 {
     let places = *at;
     let words = *value;

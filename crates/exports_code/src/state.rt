@@ -1,12 +1,12 @@
 // The state as lent numbers: first, last, live count and newest slot of 32 bits, and the next version of 64.
 ghost use Rattle.std.specs.Prelude.{◌≡◌};
-ghost use Rattle.exports.specs.State.{stateFrom};
+ghost use Rattle.exports.specs.State.{state_from};
 
 use orderset::State;
 
 // The state in the lent numbers.
 pub fn state_from(state: &[u32; 4], version: &[u64; 1]) -> State
-    ensures result { result ≡ stateFrom state.now version.now }
+    ensures result { result ≡ state_from state.now version.now }
 {
     State {
         first: state[0],
@@ -19,7 +19,7 @@ pub fn state_from(state: &[u32; 4], version: &[u64; 1]) -> State
 
 // The lent numbers become those of the state.
 pub fn keep_state(after: State, state: &mut [u32; 4], version: &mut [u64; 1])
-    ensures result { stateFrom state.new version.new ≡ after }
+    ensures result { state_from state.new version.new ≡ after }
 {
     *state = [after.first, after.last, after.live, after.newest];
     *version = [after.version];

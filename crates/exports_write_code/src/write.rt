@@ -1,8 +1,8 @@
 // Insert, replace and remove with lent numbers: with `wide` in layout 2, with `own` for the owner of the index.
 ghost use Rattle.std.specs.Prelude.{◌≡◌};
-ghost use Rattle.interface.specs.Set.{layoutNumber, keyWith, zipped, writeResultBy, removeResultBy, index_of};
-ghost use Rattle.exports.specs.State.{stateFrom};
-ghost use Rattle.exports.specs.Call.{changeLeft, changeCall};
+ghost use Rattle.interface.specs.Set.{layout_number, key_with, zipped, write_result_by, remove_result_by, index_of};
+ghost use Rattle.exports.specs.State.{state_from};
+ghost use Rattle.exports.specs.Call.{change_left, change_call};
 
 use exports_answer_code::answer::write_answer;
 use exports_code::state::state_from;
@@ -26,11 +26,11 @@ pub fn write_call(
     answer: &mut [u64; 4],
     own: bool,
 ) -> u64
-    ensures result { changeLeft result answer.new (stateFrom state.new version.new)
+    ensures result { change_left result answer.new (state_from state.new version.new)
         (zipped at.new value.new) heads.new next.new
-        ≡ changeCall
-        (writeResultBy own (layoutNumber wide) image.now
-        (index_of heads.old next.old (stateFrom state.old version.old)) mode (keyWith low high)
+        ≡ change_call
+        (write_result_by own (layout_number wide) image.now
+        (index_of heads.old next.old (state_from state.old version.old)) mode (key_with low high)
         bytes.now)
         answer.old (zipped at.old value.old) }
 {
@@ -56,11 +56,11 @@ pub fn remove_call(
     answer: &mut [u64; 4],
     own: bool,
 ) -> u64
-    ensures result { changeLeft result answer.new (stateFrom state.new version.new)
+    ensures result { change_left result answer.new (state_from state.new version.new)
         (zipped at.new value.new) heads.new next.new
-        ≡ changeCall
-        (removeResultBy own (layoutNumber wide) image.now
-        (index_of heads.old next.old (stateFrom state.old version.old)) (keyWith low high))
+        ≡ change_call
+        (remove_result_by own (layout_number wide) image.now
+        (index_of heads.old next.old (state_from state.old version.old)) (key_with low high))
         answer.old (zipped at.old value.old) }
 {
     let before = state_from(state, version);

@@ -8,22 +8,22 @@ use native.Mathlib.Omega.{arith}
 use lib.Dec.{eqb}
 use lib.ListN.{length, get_or}
 use borrow.Author.Tests.{eq-eqb, ne_eqb}
-use Rattle.index.specs.Index.{Chain, reuse, head, Index, start, ahead, setNext, setStart, setLast, link}
-use Rattle.index.specs.Change.{takeFirst, append, linkNew, insertAt, replaceAt, removeAt}
+use Rattle.index.specs.Index.{Chain, reuse, head, Index, start, ahead, set_next, set_start, set_last, link}
+use Rattle.index.specs.Change.{take_first, append, link_new, insert_at, replace_at, remove_at}
 use Rattle.prelude.specs.Members.{In}
 use Rattle.index.specs.Linked.{Run, end_of, Owner, free, of, Entry, Disjoint, WellFormed}
-use Rattle.index.proofs.defs.Linked.{give, withChain, Room}
-use Rattle.prelude.proofs.Paths.{end_snoc, mid-in, run-after}
-use Rattle.index.proofs.Owners.{free_of, reuse-apart, give-same, give-other, give-twice, give-swap, with-same, with-other, with-twice}
-use Rattle.index.proofs.Owners.{with-swap}
-use Rattle.index.proofs.Links.{set_here, set_else, set-heads, set_last, ahead-next, link-size, set-size, link-heads, link-last, slot-size, room-size}
-use Rattle.index.proofs.Relinks.{disjoint-set, disjoint-last, disjoint-unlink, disjoint-insert, disjoint-replace}
+use Rattle.index.proofs.defs.Linked.{give, with_chain, Room}
+use Rattle.prelude.proofs.Paths.{end_snoc, mid_in, run_after}
+use Rattle.index.proofs.Owners.{free_of, reuse_apart, give_same, give_other, give_twice, give_swap, with_same, with_other, with_twice}
+use Rattle.index.proofs.Owners.{with_swap}
+use Rattle.index.proofs.Links.{set_here, set_else, set_heads, set-last, ahead-next, link_size, set_size, link-heads, link-last, slot_size, room_size}
+use Rattle.index.proofs.Relinks.{disjoint_set, disjoint_last, disjoint_unlink, disjoint_insert, disjoint_replace}
 
 -- the first slot of reuse
-pub first-is : (i : Index) (owner : ℕ → Owner) (chains : Chain → List ℕ) (f : ℕ) (rest : List ℕ) → Disjoint i owner chains
+pub first_is : (i : Index) (owner : ℕ → Owner) (chains : Chain → List ℕ) (f : ℕ) (rest : List ℕ) → Disjoint i owner chains
     → chains reuse ≡ f ∷ rest → i.state.first ≡ f
 unfolding ahead start
-first-is i owner chains f rest w e =
+first_is i owner chains f rest w e =
     let r : Run (ahead i reuse) (ahead i reuse 0) (f ∷ rest) 0 = rw e at (w.runs reuse) in
     r.0
 
@@ -31,12 +31,12 @@ first-is i owner chains f rest w e =
 pub slot_of : (i : Index) (owner : ℕ → Owner) (chains : Chain → List ℕ) (c : Chain) (xs : List ℕ) (s : ℕ) (ys : List ℕ)
     → Disjoint i owner chains
     → chains c ≡ xs ++ s ∷ ys → Entry i s
-slot_of i owner chains c xs s ys w e = w.slot c s (w.owned.mine c s (rw e (mid-in s s xs ys (inl refl))))
+slot_of i owner chains c xs s ys w e = w.slot c s (w.owned.mine c s (rw e (mid_in s s xs ys (inl refl))))
 
-pub owner_of : (i : Index) (owner : ℕ → Owner) (chains : Chain → List ℕ) (c : Chain) (xs : List ℕ) (s : ℕ) (ys : List ℕ)
+pub owner-of : (i : Index) (owner : ℕ → Owner) (chains : Chain → List ℕ) (c : Chain) (xs : List ℕ) (s : ℕ) (ys : List ℕ)
     → Disjoint i owner chains
     → chains c ≡ xs ++ s ∷ ys → owner s ≡ of c
-owner_of i owner chains c xs s ys w e = w.owned.mine c s (rw e (mid-in s s xs ys (inl refl)))
+owner-of i owner chains c xs s ys w e = w.owned.mine c s (rw e (mid_in s s xs ys (inl refl)))
 
 take_ends : (a l f : ℕ) (g : ℕ → ℕ) (rest : List ℕ) → Run g a rest 0 → ((y : ℕ) → In y rest → 0 < y) → l ≡ end_of 0 (f ∷ rest)
     → cond (eqb a 0) 0 l ≡ end_of 0 rest
@@ -49,7 +49,7 @@ pub first_ends : (i : Index) (owner : ℕ → Owner) (chains : Chain → List �
     → cond (eqb (get_or i.next i.state.first 0) 0) 0 i.state.last ≡ end_of 0 rest
 first_ends i owner chains f rest g e =
     let w = g.disjoint in
-    let d : i.state.first ≡ f = first-is _ _ _ _ _ w e in
+    let d : i.state.first ≡ f = first_is _ _ _ _ _ w e in
     let s : Entry i f = slot_of _ _ _ reuse [] f rest w e in
     let n : ahead i reuse f ≡ get_or i.next i.state.first 0 = ahead-next i reuse f s.low ∙ ap (λ (x : ℕ). get_or i.next x 0) (sym d) in
     let r : Run (ahead i reuse) (ahead i reuse 0) (f ∷ rest) 0 = rw e at (w.runs reuse) in
@@ -57,179 +57,179 @@ first_ends i owner chains f rest g e =
     (λ y m. (w.slot reuse y (w.owned.mine reuse y (rw e (inr m)))).low) (rw e at g.ends)
 
 -- a slot that nobody has, at the end of a chain
-disjoint-end : (i : Index) (owner : ℕ → Owner) (chains : Chain → List ℕ) (c : Chain) (s prev : ℕ) → Disjoint i owner chains → Room i c
+disjoint_end : (i : Index) (owner : ℕ → Owner) (chains : Chain → List ℕ) (c : Chain) (s prev : ℕ) → Disjoint i owner chains → Room i c
     → Entry i s → owner s ≡ free
-    → prev ≡ end_of 0 (chains c) → Disjoint (link (setNext i s 0) c prev s) (give owner s (of c)) (withChain chains c (chains c ++ s ∷ []))
-disjoint-end i owner chains c s prev w a t f p =
-    let v : Disjoint (setNext i s 0) owner chains = disjoint-set _ _ _ s 0 w t.low f in
+    → prev ≡ end_of 0 (chains c) → Disjoint (link (set_next i s 0) c prev s) (give owner s (of c)) (with_chain chains c (chains c ++ s ∷ []))
+disjoint_end i owner chains c s prev w a t f p =
+    let v : Disjoint (set_next i s 0) owner chains = disjoint_set _ _ _ s 0 w t.low f in
     let e : chains c ≡ chains c ++ [] = sym (append-nil (chains c)) in
-    let z : ahead (setNext i s 0) c (end_of 0 (chains c)) ≡ 0 =
-    run-after (ahead (setNext i s 0) c) 0 (chains c) [] 0 (rw e at (v.runs c)) in
-    rw p (disjoint-insert _ _ _ c (chains c) s [] v e (room-size _ _ c (set-heads i s 0) a)
-    (slot-size _ _ s (set-size i s 0) t) f (set_here i s 0 c t ∙ sym z))
+    let z : ahead (set_next i s 0) c (end_of 0 (chains c)) ≡ 0 =
+    run_after (ahead (set_next i s 0) c) 0 (chains c) [] 0 (rw e at (v.runs c)) in
+    rw p (disjoint_insert _ _ _ c (chains c) s [] v e (room_size _ _ c (set_heads i s 0) a)
+    (slot_size _ _ s (set_size i s 0) t) f (set_here i s 0 c t ∙ sym z))
 
-pub formed-append : (i : Index) (owner : ℕ → Owner) (chains : Chain → List ℕ) (s : ℕ) → WellFormed i owner chains → Entry i s → owner s ≡ free
-    → WellFormed (append i s) (give owner s (of reuse)) (withChain chains reuse (chains reuse ++ s ∷ []))
-unfolding append setLast
-formed-append i owner chains s g t f = record {
+pub formed_append : (i : Index) (owner : ℕ → Owner) (chains : Chain → List ℕ) (s : ℕ) → WellFormed i owner chains → Entry i s → owner s ≡ free
+    → WellFormed (append i s) (give owner s (of reuse)) (with_chain chains reuse (chains reuse ++ s ∷ []))
+unfolding append set_last
+formed_append i owner chains s g t f = record {
   disjoint =
-      disjoint-last _ _ _ s
-      (disjoint-end _ _ _ reuse s i.state.last g.disjoint tt t f g.ends);
-  ends = rw with-same (sym (end_snoc 0 (chains reuse) s));
+      disjoint_last _ _ _ s
+      (disjoint_end _ _ _ reuse s i.state.last g.disjoint tt t f g.ends);
+  ends = rw with_same (sym (end_snoc 0 (chains reuse) s));
 }
 
-pub formed-link : (i : Index) (owner : ℕ → Owner) (chains : Chain → List ℕ) (h s prev : ℕ) → WellFormed i owner chains → h < length i.heads
+pub formed_link : (i : Index) (owner : ℕ → Owner) (chains : Chain → List ℕ) (h s prev : ℕ) → WellFormed i owner chains → h < length i.heads
     → Entry i s → owner s ≡ free
     → prev ≡ end_of 0 (chains (head h))
-    → WellFormed (linkNew i (head h) prev s 0) (give owner s (of (head h))) (withChain chains (head h) (chains (head h) ++ s ∷ []))
-unfolding linkNew
-formed-link i owner chains h s prev g a t f p = record {
-  disjoint = disjoint-end _ _ _ (head h) s prev g.disjoint a t f p;
+    → WellFormed (link_new i (head h) prev s 0) (give owner s (of (head h))) (with_chain chains (head h) (chains (head h) ++ s ∷ []))
+unfolding link_new
+formed_link i owner chains h s prev g a t f p = record {
+  disjoint = disjoint_end _ _ _ (head h) s prev g.disjoint a t f p;
   ends =
-      link-last _ _ _ _ ∙ set_last _ _ _ ∙ g.ends ∙ ap (end_of 0)
-      (sym (with-other chains (head h) _ reuse (reuse-apart h)));
+      link-last _ _ _ _ ∙ set-last _ _ _ ∙ g.ends ∙ ap (end_of 0)
+      (sym (with_other chains (head h) _ reuse (reuse_apart h)));
 }
 
-pub formed-replace : (i : Index) (owner : ℕ → Owner) (chains : Chain → List ℕ) (h : ℕ) (xs : List ℕ) (old s : ℕ) (ys : List ℕ) (prev : ℕ)
+pub formed_replace : (i : Index) (owner : ℕ → Owner) (chains : Chain → List ℕ) (h : ℕ) (xs : List ℕ) (old s : ℕ) (ys : List ℕ) (prev : ℕ)
     → WellFormed i owner chains
     → chains (head h) ≡ xs ++ old ∷ ys → Entry i s → owner s ≡ free → prev ≡ end_of 0 xs
-    → WellFormed (linkNew i (head h) prev s (get_or i.next old 0)) (give (give owner old free) s (of (head h)))
-    (withChain chains (head h) (xs ++ s ∷ ys))
-unfolding linkNew
-formed-replace i owner chains h xs old s ys prev g e t f p =
+    → WellFormed (link_new i (head h) prev s (get_or i.next old 0)) (give (give owner old free) s (of (head h)))
+    (with_chain chains (head h) (xs ++ s ∷ ys))
+unfolding link_new
+formed_replace i owner chains h xs old s ys prev g e t f p =
     let n = get_or i.next old 0 in
     let w = g.disjoint in
-    let v : Disjoint (setNext i s n) owner chains = disjoint-set _ _ _ s n w t.low f in
+    let v : Disjoint (set_next i s n) owner chains = disjoint_set _ _ _ s n w t.low f in
     let o : Entry i old = slot_of _ _ _ (head h) xs old ys w e in
-    let d : old ≡ s → ⊥ = λ d. free_of (head h) (sym f ∙ ap owner (sym d) ∙ owner_of _ _ _ (head h) xs old ys w e) in
-    let q : ahead (setNext i s n) (head h) s ≡ ahead (setNext i s n) (head h) old =
+    let d : old ≡ s → ⊥ = λ d. free_of (head h) (sym f ∙ ap owner (sym d) ∙ owner-of _ _ _ (head h) xs old ys w e) in
+    let q : ahead (set_next i s n) (head h) s ≡ ahead (set_next i s n) (head h) old =
     set_here i s n (head h) t ∙ sym (set_else i s n (head h) old d ∙ ahead-next i (head h) old o.low) in
     record {
       disjoint =
-          rw p (disjoint-replace _ _ _ (head h) xs old s ys v e
-          (slot-size _ _ s (set-size i s n) t) f q);
+          rw p (disjoint_replace _ _ _ (head h) xs old s ys v e
+          (slot_size _ _ s (set_size i s n) t) f q);
       ends =
-          link-last _ _ _ _ ∙ set_last _ _ _ ∙ g.ends ∙ ap (end_of 0)
-          (sym (with-other chains (head h) _ reuse (reuse-apart h)));
+          link-last _ _ _ _ ∙ set-last _ _ _ ∙ g.ends ∙ ap (end_of 0)
+          (sym (with_other chains (head h) _ reuse (reuse_apart h)));
     }
 
-pub formed-unlink : (i : Index) (owner : ℕ → Owner) (chains : Chain → List ℕ) (h : ℕ) (xs : List ℕ) (old : ℕ) (ys : List ℕ) (prev : ℕ)
+pub formed_unlink : (i : Index) (owner : ℕ → Owner) (chains : Chain → List ℕ) (h : ℕ) (xs : List ℕ) (old : ℕ) (ys : List ℕ) (prev : ℕ)
     → WellFormed i owner chains
     → chains (head h) ≡ xs ++ old ∷ ys → prev ≡ end_of 0 xs
-    → WellFormed (link i (head h) prev (get_or i.next old 0)) (give owner old free) (withChain chains (head h) (xs ++ ys))
-formed-unlink i owner chains h xs old ys prev g e p =
+    → WellFormed (link i (head h) prev (get_or i.next old 0)) (give owner old free) (with_chain chains (head h) (xs ++ ys))
+formed_unlink i owner chains h xs old ys prev g e p =
     let w = g.disjoint in
     let o : Entry i old = slot_of _ _ _ (head h) xs old ys w e in
     record {
-      disjoint = rw (p, ← ahead-next i (head h) old o.low) (disjoint-unlink _ _ _ (head h) xs old ys w e);
+      disjoint = rw (p, ← ahead-next i (head h) old o.low) (disjoint_unlink _ _ _ (head h) xs old ys w e);
       ends =
           link-last _ _ _ _ ∙ g.ends ∙ ap (end_of 0)
-          (sym (with-other chains (head h) _ reuse (reuse-apart h)));
+          (sym (with_other chains (head h) _ reuse (reuse_apart h)));
     }
 
 -- ---- what a call writes
 
-pub take-heads : (i : Index) → length (takeFirst i).heads ≡ length i.heads
-unfolding takeFirst setLast setStart
-take-heads i = refl
+pub take_heads : (i : Index) → length (take_first i).heads ≡ length i.heads
+unfolding take_first set_last set_start
+take_heads i = refl
 
-pub linkNew-next : (i : Index) (c : Chain) (prev s n : ℕ) → length (linkNew i c prev s n).next ≡ length i.next
-unfolding linkNew
-linkNew-next i c prev s n = link-size _ _ _ _ ∙ set-size _ _ _
+pub link_new-next : (i : Index) (c : Chain) (prev s n : ℕ) → length (link_new i c prev s n).next ≡ length i.next
+unfolding link_new
+link_new-next i c prev s n = link_size _ _ _ _ ∙ set_size _ _ _
 
 pub append-next : (i : Index) (s : ℕ) → length (append i s).next ≡ length i.next
-unfolding append setLast
-append-next i s = link-size _ _ _ _ ∙ set-size _ _ _
+unfolding append set_last
+append-next i s = link_size _ _ _ _ ∙ set_size _ _ _
 
-pub linkNew-heads : (i : Index) (c : Chain) (prev s n : ℕ) → length (linkNew i c prev s n).heads ≡ length i.heads
-unfolding linkNew
-linkNew-heads i c prev s n = link-heads _ _ _ _ ∙ set-heads _ _ _
+pub link_new-heads : (i : Index) (c : Chain) (prev s n : ℕ) → length (link_new i c prev s n).heads ≡ length i.heads
+unfolding link_new
+link_new-heads i c prev s n = link-heads _ _ _ _ ∙ set_heads _ _ _
 
 pub append-heads : (i : Index) (s : ℕ) → length (append i s).heads ≡ length i.heads
-unfolding append setLast
-append-heads i s = link-heads _ _ _ _ ∙ set-heads _ _ _
+unfolding append set_last
+append-heads i s = link-heads _ _ _ _ ∙ set_heads _ _ _
 
-pub insert-at-next : (i : Index) (h prev s : ℕ) → length (insertAt i h prev s).next ≡ length i.next
-unfolding insertAt
-insert-at-next i h prev s = linkNew-next _ _ _ _ _
+pub insert_at_next : (i : Index) (h prev s : ℕ) → length (insert_at i h prev s).next ≡ length i.next
+unfolding insert_at
+insert_at_next i h prev s = link_new-next _ _ _ _ _
 
-pub insert-at-heads : (i : Index) (h prev s : ℕ) → length (insertAt i h prev s).heads ≡ length i.heads
-unfolding insertAt
-insert-at-heads i h prev s = linkNew-heads _ _ _ _ _
+pub insert_at_heads : (i : Index) (h prev s : ℕ) → length (insert_at i h prev s).heads ≡ length i.heads
+unfolding insert_at
+insert_at_heads i h prev s = link_new-heads _ _ _ _ _
 
-pub replace-at-next : (i : Index) (h prev old s : ℕ) → length (replaceAt i h prev old s).next ≡ length i.next
-unfolding replaceAt linkNew
-replace-at-next i h prev old s = simp (append-next, link-size, set-size)
+pub replace_at_next : (i : Index) (h prev old s : ℕ) → length (replace_at i h prev old s).next ≡ length i.next
+unfolding replace_at link_new
+replace_at_next i h prev old s = simp (append-next, link_size, set_size)
 
-pub replace-at-heads : (i : Index) (h prev old s : ℕ) → length (replaceAt i h prev old s).heads ≡ length i.heads
-unfolding replaceAt linkNew
-replace-at-heads i h prev old s = simp (append-heads, link-heads, set-heads)
+pub replace_at_heads : (i : Index) (h prev old s : ℕ) → length (replace_at i h prev old s).heads ≡ length i.heads
+unfolding replace_at link_new
+replace_at_heads i h prev old s = simp (append-heads, link-heads, set_heads)
 
-pub remove-at-next : (i : Index) (h prev old s : ℕ) → length (removeAt i h prev old s).next ≡ length i.next
-unfolding removeAt
-remove-at-next i h prev old s = simp (append-next, link-size)
+pub remove_at_next : (i : Index) (h prev old s : ℕ) → length (remove_at i h prev old s).next ≡ length i.next
+unfolding remove_at
+remove_at_next i h prev old s = simp (append-next, link_size)
 
-pub remove-at-heads : (i : Index) (h prev old s : ℕ) → length (removeAt i h prev old s).heads ≡ length i.heads
-unfolding removeAt
-remove-at-heads i h prev old s = simp (append-heads, link-heads)
+pub remove_at_heads : (i : Index) (h prev old s : ℕ) → length (remove_at i h prev old s).heads ≡ length i.heads
+unfolding remove_at
+remove_at_heads i h prev old s = simp (append-heads, link-heads)
 
-pub formed-alike : (i : Index) (o p : ℕ → Owner) (c d : Chain → List ℕ) → o ≡ p → c ≡ d → WellFormed i o c → WellFormed i p d
-formed-alike i o p c d e f g = rw (← e, ← f) g
+pub formed_alike : (i : Index) (o p : ℕ → Owner) (c d : Chain → List ℕ) → o ≡ p → c ≡ d → WellFormed i o c → WellFormed i p d
+formed_alike i o p c d e f g = rw (← e, ← f) g
 
 -- ---- the changes for a slot s that nobody has
 
 module _
     (i : Index) (owner : ℕ → Owner) (chains : Chain → List ℕ) (h prev s : ℕ) (g : WellFormed i owner chains) (t : Entry i s)
     (f : owner s ≡ free) where
-  pub formed-insert-at : h < length i.heads → prev ≡ end_of 0 (chains (head h))
-      → WellFormed (insertAt i h prev s) (give owner s (of (head h))) (withChain chains (head h) (chains (head h) ++ s ∷ []))
-  unfolding insertAt
-  formed-insert-at a p = formed-link _ _ _ h s prev g a t f p
+  pub formed_insert_at : h < length i.heads → prev ≡ end_of 0 (chains (head h))
+      → WellFormed (insert_at i h prev s) (give owner s (of (head h))) (with_chain chains (head h) (chains (head h) ++ s ∷ []))
+  unfolding insert_at
+  formed_insert_at a p = formed_link _ _ _ h s prev g a t f p
 
   module _ (xs : List ℕ) (old : ℕ) (ys : List ℕ) (d : chains (head h) ≡ xs ++ old ∷ ys) (p : prev ≡ end_of 0 xs) where
     held : Entry i old
     held = slot_of _ _ _ (head h) xs old ys g.disjoint d
 
     apart : old ≡ s → ⊥
-    apart n = free_of (head h) (sym f ∙ ap owner (sym n) ∙ owner_of _ _ _ (head h) xs old ys g.disjoint d)
+    apart n = free_of (head h) (sym f ∙ ap owner (sym n) ∙ owner-of _ _ _ (head h) xs old ys g.disjoint d)
 
-    pub formed-replace-at : WellFormed (replaceAt i h prev old s) (give (give owner s (of (head h))) old (of reuse))
-        (withChain (withChain chains reuse (chains reuse ++ old ∷ [])) (head h) (xs ++ s ∷ ys))
-    unfolding replaceAt
-    formed-replace-at =
+    pub formed_replace_at : WellFormed (replace_at i h prev old s) (give (give owner s (of (head h))) old (of reuse))
+        (with_chain (with_chain chains reuse (chains reuse ++ old ∷ [])) (head h) (xs ++ s ∷ ys))
+    unfolding replace_at
+    formed_replace_at =
         let o = give (give owner old free) s (of (head h)) in
-        let c = withChain chains (head h) (xs ++ s ∷ ys) in
-        let k = linkNew i (head h) prev s (get_or i.next old 0) in
-        let g₂ : WellFormed k o c = formed-replace _ _ _ h xs old s ys prev g d t f p in
-        let b : o old ≡ free = give-other (give owner old free) s (of (head h)) old apart ∙ give-same owner old free old refl in
-        let r : c reuse ≡ chains reuse = with-other chains (head h) (xs ++ s ∷ ys) reuse (reuse-apart h) in
-        formed-alike (append k old) _ _ _ _
-        (ap (λ (z : ℕ → Owner). give z old (of reuse)) (give-swap owner old s free (of (head h)) apart)
-        ∙ give-twice (give owner s (of (head h))) old free (of reuse))
-        (ap (λ (l : List ℕ). withChain c reuse (l ++ old ∷ [])) r
-        ∙ with-swap chains (head h) reuse (xs ++ s ∷ ys) (chains reuse ++ old ∷ []) (λ n. reuse-apart h (sym n)))
-        (formed-append _ _ _ old g₂ (slot-size i k old (linkNew-next i (head h) prev s (get_or i.next old 0)) held) b)
+        let c = with_chain chains (head h) (xs ++ s ∷ ys) in
+        let k = link_new i (head h) prev s (get_or i.next old 0) in
+        let g₂ : WellFormed k o c = formed_replace _ _ _ h xs old s ys prev g d t f p in
+        let b : o old ≡ free = give_other (give owner old free) s (of (head h)) old apart ∙ give_same owner old free old refl in
+        let r : c reuse ≡ chains reuse = with_other chains (head h) (xs ++ s ∷ ys) reuse (reuse_apart h) in
+        formed_alike (append k old) _ _ _ _
+        (ap (λ (z : ℕ → Owner). give z old (of reuse)) (give_swap owner old s free (of (head h)) apart)
+        ∙ give_twice (give owner s (of (head h))) old free (of reuse))
+        (ap (λ (l : List ℕ). with_chain c reuse (l ++ old ∷ [])) r
+        ∙ with_swap chains (head h) reuse (xs ++ s ∷ ys) (chains reuse ++ old ∷ []) (λ n. reuse_apart h (sym n)))
+        (formed_append _ _ _ old g₂ (slot_size i k old (link_new-next i (head h) prev s (get_or i.next old 0)) held) b)
 
-    pub formed-remove-at : WellFormed (removeAt i h prev old s) (give (give owner s (of reuse)) old (of reuse))
-        (withChain (withChain chains reuse (chains reuse ++ old ∷ s ∷ [])) (head h) (xs ++ ys))
-    unfolding removeAt
-    formed-remove-at =
+    pub formed_remove_at : WellFormed (remove_at i h prev old s) (give (give owner s (of reuse)) old (of reuse))
+        (with_chain (with_chain chains reuse (chains reuse ++ old ∷ s ∷ [])) (head h) (xs ++ ys))
+    unfolding remove_at
+    formed_remove_at =
         let o = give owner old free in
-        let c = withChain chains (head h) (xs ++ ys) in
+        let c = with_chain chains (head h) (xs ++ ys) in
         let k = link i (head h) prev (get_or i.next old 0) in
         let n : s ≡ old → ⊥ = λ q. apart (sym q) in
-        let z : length k.next ≡ length i.next = link-size i (head h) prev (get_or i.next old 0) in
-        let g₂ : WellFormed k o c = formed-unlink _ _ _ h xs old ys prev g d p in
-        let r : c reuse ≡ chains reuse = with-other chains (head h) (xs ++ ys) reuse (reuse-apart h) in
-        let g₃ : WellFormed (append k old) (give owner old (of reuse)) (withChain c reuse (chains reuse ++ old ∷ [])) =
-        formed-alike (append k old) _ _ _ _ (give-twice owner old free (of reuse))
-        (ap (λ (l : List ℕ). withChain c reuse (l ++ old ∷ [])) r)
-        (formed-append _ _ _ old g₂ (slot-size i k old z held) (give-same owner old free old refl)) in
-        let b : give owner old (of reuse) s ≡ free = give-other owner old (of reuse) s n ∙ f in
-        formed-alike (append (append k old) s) _ _ _ _ (give-swap owner old s (of reuse) (of reuse) apart)
-        (ap (λ (l : List ℕ). withChain (withChain c reuse (chains reuse ++ old ∷ [])) reuse (l ++ s ∷ []))
-        (with-same c reuse (chains reuse ++ old ∷ []))
-        ∙ with-twice c reuse (chains reuse ++ old ∷ []) ((chains reuse ++ old ∷ []) ++ s ∷ [])
-        ∙ ap (λ (l : List ℕ). withChain c reuse l) (append_assoc (chains reuse) (old ∷ []) (s ∷ []))
-        ∙ with-swap chains (head h) reuse (xs ++ ys) (chains reuse ++ old ∷ s ∷ []) (λ q. reuse-apart h (sym q)))
-        (formed-append (append k old) _ _ s g₃ (slot-size i (append k old) s (append-next k old ∙ z) t) b)
+        let z : length k.next ≡ length i.next = link_size i (head h) prev (get_or i.next old 0) in
+        let g₂ : WellFormed k o c = formed_unlink _ _ _ h xs old ys prev g d p in
+        let r : c reuse ≡ chains reuse = with_other chains (head h) (xs ++ ys) reuse (reuse_apart h) in
+        let g₃ : WellFormed (append k old) (give owner old (of reuse)) (with_chain c reuse (chains reuse ++ old ∷ [])) =
+        formed_alike (append k old) _ _ _ _ (give_twice owner old free (of reuse))
+        (ap (λ (l : List ℕ). with_chain c reuse (l ++ old ∷ [])) r)
+        (formed_append _ _ _ old g₂ (slot_size i k old z held) (give_same owner old free old refl)) in
+        let b : give owner old (of reuse) s ≡ free = give_other owner old (of reuse) s n ∙ f in
+        formed_alike (append (append k old) s) _ _ _ _ (give_swap owner old s (of reuse) (of reuse) apart)
+        (ap (λ (l : List ℕ). with_chain (with_chain c reuse (chains reuse ++ old ∷ [])) reuse (l ++ s ∷ []))
+        (with_same c reuse (chains reuse ++ old ∷ []))
+        ∙ with_twice c reuse (chains reuse ++ old ∷ []) ((chains reuse ++ old ∷ []) ++ s ∷ [])
+        ∙ ap (λ (l : List ℕ). with_chain c reuse l) (append_assoc (chains reuse) (old ∷ []) (s ∷ []))
+        ∙ with_swap chains (head h) reuse (xs ++ ys) (chains reuse ++ old ∷ s ∷ []) (λ q. reuse_apart h (sym q)))
+        (formed_append (append k old) _ _ s g₃ (slot_size i (append k old) s (append-next k old ∙ z) t) b)

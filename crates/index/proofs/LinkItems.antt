@@ -10,34 +10,34 @@ use Rattle.prelude.specs.Members.{In}
 use Rattle.prelude.proofs.Lists.{in_left}
 use Rattle.index.specs.Index.{Chain, reuse, head, Index, start, ahead}
 use Rattle.index.specs.Linked.{Run, end_of, Owner, free, of, Entry, Disjoint, WellFormed}
-use Rattle.index.specs.Basket.{slotBefore, beforeIn, linkBy}
+use Rattle.index.specs.Basket.{slot_before, before_in, link_by}
 use Rattle.index.specs.declared.Action.TheVariants.{Write, Remove}
 use Rattle.index.specs.declared.Mode.TheVariants.{Insert, Replace}
-use Rattle.index.proofs.defs.Linked.{give, withChain}
-use Rattle.prelude.proofs.Paths.{run-alike, stands-once}
+use Rattle.index.proofs.defs.Linked.{give, with_chain}
+use Rattle.prelude.proofs.Paths.{run_alike, stands_once}
 use Rattle.index.proofs.Links.{ahead-next}
-use Rattle.index.proofs.Relinks.{part-pos, part-run}
-use Rattle.index.proofs.ChainLengths.{at_most, run-once}
-use Rattle.index.proofs.CallWrites.{formed-insert-at, formed-replace-at, formed-remove-at}
+use Rattle.index.proofs.Relinks.{part_pos, part_run}
+use Rattle.index.proofs.ChainLengths.{at_most, run_once}
+use Rattle.index.proofs.CallWrites.{formed_insert_at, formed_replace_at, formed_remove_at}
 
 -- ---- the slot before a target
 
 -- from `at` go the slots xs and then the target
-before-run : (next : List ℕ) (n : ℕ) (xs : List ℕ) (left target prev at : ℕ) → Run (λ x. get_or next x 0) at xs target
-    → ((x : ℕ) → In x xs → (0 < x) × (x ≤ n) × (x ≡ target → ⊥)) → length xs ≤ left → slotBefore next n left target prev at ≡ end_of prev xs
-unfolding slotBefore
-before-run next n [] zero target prev at r h k = refl
-before-run next n [] (suc left) target prev at r h k = rw (eq-eqb at target r)
-before-run next n (x ∷ xs) zero target prev at r h k = absurd (omega arith)
-before-run next n (x ∷ xs) (suc left) target prev at r h k =
+before_run : (next : List ℕ) (n : ℕ) (xs : List ℕ) (left target prev at : ℕ) → Run (λ x. get_or next x 0) at xs target
+    → ((x : ℕ) → In x xs → (0 < x) × (x ≤ n) × (x ≡ target → ⊥)) → length xs ≤ left → slot_before next n left target prev at ≡ end_of prev xs
+unfolding slot_before
+before_run next n [] zero target prev at r h k = refl
+before_run next n [] (suc left) target prev at r h k = rw (eq-eqb at target r)
+before_run next n (x ∷ xs) zero target prev at r h k = absurd (omega arith)
+before_run next n (x ∷ xs) (suc left) target prev at r h k =
     let q = h x (inl refl) in
     rw (r.0, ne_eqb x target q.2, ne_eqb x 0 (λ e. omega (arith, q.0)), le-ltb n x q.1)
-    (before-run next n xs left target x (get_or next x 0) r.1 (λ y m. h y (inr m)) (omega arith))
+    (before_run next n xs left target x (get_or next x 0) r.1 (λ y m. h y (inr m)) (omega arith))
 
 -- a run up to one of its slots
-run-front : (f : ℕ → ℕ) (a : ℕ) (xs : List ℕ) (s : ℕ) (ys : List ℕ) (v : ℕ) → Run f a (xs ++ s ∷ ys) v → Run f a xs s
-run-front f a [] s ys v r = r.0
-run-front f a (x ∷ xs) s ys v r = (r.0, run-front f (f x) xs s ys v r.1)
+run_front : (f : ℕ → ℕ) (a : ℕ) (xs : List ℕ) (s : ℕ) (ys : List ℕ) (v : ℕ) → Run f a (xs ++ s ∷ ys) v → Run f a xs s
+run_front f a [] s ys v r = r.0
+run_front f a (x ∷ xs) s ys v r = (r.0, run_front f (f x) xs s ys v r.1)
 
 module _
     (i : Index) (owner : ℕ → Owner) (chains : Chain → List ℕ) (n h : ℕ) (w : Disjoint i owner chains) (z : length i.next ≡ n + 1) where
@@ -46,28 +46,28 @@ module _
 
   few : length (chains (head h)) ≤ n
   few =
-      at_most n (chains (head h)) (run-once (ahead i (head h)) _ (chains (head h)) (λ y m. (bounds y m).0) (w.runs (head h))) bounds
+      at_most n (chains (head h)) (run_once (ahead i (head h)) _ (chains (head h)) (λ y m. (bounds y m).0) (w.runs (head h))) bounds
 
   -- in the chain of head h
   before-in : (xs : List ℕ) (target : ℕ) → Run (ahead i (head h)) (ahead i (head h) 0) xs target
       → ((x : ℕ) → In x xs → In x (chains (head h))) → ((x : ℕ) → In x xs → x ≡ target → ⊥) → length xs ≤ n
-      → beforeIn i n h target ≡ end_of 0 xs
-  unfolding beforeIn ahead start
+      → before_in i n h target ≡ end_of 0 xs
+  unfolding before_in ahead start
   before-in xs target r sub ne k =
-      before-run i.next n xs n target 0 (get_or i.heads h 0)
-      (run-alike (ahead i (head h)) (λ x. get_or i.next x 0) xs _ _ target refl (λ y m. ahead-next i (head h) y (bounds y (sub y m)).0) r)
+      before_run i.next n xs n target 0 (get_or i.heads h 0)
+      (run_alike (ahead i (head h)) (λ x. get_or i.next x 0) xs _ _ target refl (λ y m. ahead-next i (head h) y (bounds y (sub y m)).0) r)
       (λ x m. let q = bounds x (sub x m) in (q.0, q.1, ne x m)) k
 
   -- the chain's end
-  pub before-end : beforeIn i n h 0 ≡ end_of 0 (chains (head h))
-  before-end = before-in (chains (head h)) 0 (w.runs (head h)) (λ x m. m) (λ x m e. omega (arith, (bounds x m).0)) few
+  pub before_end : before_in i n h 0 ≡ end_of 0 (chains (head h))
+  before_end = before-in (chains (head h)) 0 (w.runs (head h)) (λ x m. m) (λ x m e. omega (arith, (bounds x m).0)) few
 
   -- a slot of the chain, which does not stand before itself
-  pub before-slot : (xs : List ℕ) (old : ℕ) (ys : List ℕ) → chains (head h) ≡ xs ++ old ∷ ys → beforeIn i n h old ≡ end_of 0 xs
-  before-slot xs old ys e =
-      before-in xs old (run-front (ahead i (head h)) (ahead i (head h) 0) xs old ys 0 (rw e at (w.runs (head h))))
+  pub before_slot : (xs : List ℕ) (old : ℕ) (ys : List ℕ) → chains (head h) ≡ xs ++ old ∷ ys → before_in i n h old ≡ end_of 0 xs
+  before_slot xs old ys e =
+      before-in xs old (run_front (ahead i (head h)) (ahead i (head h) 0) xs old ys 0 (rw e at (w.runs (head h))))
       (λ x m. rw e (in_left x xs (old ∷ ys) m))
-      (λ x m q. stands-once (ahead i (head h)) 0 xs old ys (part-pos _ _ _ w (head h) xs (old ∷ ys) e) (part-run _ _ _ w (head h) xs (old ∷ ys) e)
+      (λ x m q. stands_once (ahead i (head h)) 0 xs old ys (part_pos _ _ _ w (head h) xs (old ∷ ys) e) (part_run _ _ _ w (head h) xs (old ∷ ys) e)
       (in_left old xs ys (rw q at m)))
       (omega (arith, few, ap (λ (l : List ℕ). length l) e, length-append xs (old ∷ ys)))
 
@@ -76,18 +76,18 @@ module _
 module _
     (i : Index) (owner : ℕ → Owner) (chains : Chain → List ℕ) (n h s : ℕ) (g : WellFormed i owner chains) (z : length i.next ≡ n + 1)
     (t : Entry i s) (f : owner s ≡ free) where
-  pub formed-insert-by : (old : ℕ) → h < length i.heads
-      → WellFormed (linkBy n i (Write Insert) h old s) (give owner s (of (head h))) (withChain chains (head h) (chains (head h) ++ s ∷ []))
-  unfolding linkBy
-  formed-insert-by old a = formed-insert-at _ _ _ h _ s g t f a (before-end i owner chains n h g.disjoint z)
+  pub formed_insert_by : (old : ℕ) → h < length i.heads
+      → WellFormed (link_by n i (Write Insert) h old s) (give owner s (of (head h))) (with_chain chains (head h) (chains (head h) ++ s ∷ []))
+  unfolding link_by
+  formed_insert_by old a = formed_insert_at _ _ _ h _ s g t f a (before_end i owner chains n h g.disjoint z)
 
   module _ (xs : List ℕ) (old : ℕ) (ys : List ℕ) (d : chains (head h) ≡ xs ++ old ∷ ys) where
-    pub formed-replace-by : WellFormed (linkBy n i (Write Replace) h old s) (give (give owner s (of (head h))) old (of reuse))
-        (withChain (withChain chains reuse (chains reuse ++ old ∷ [])) (head h) (xs ++ s ∷ ys))
-    unfolding linkBy
-    formed-replace-by = formed-replace-at _ _ _ h _ s g t f xs old ys d (before-slot i owner chains n h g.disjoint z xs old ys d)
+    pub formed_replace_by : WellFormed (link_by n i (Write Replace) h old s) (give (give owner s (of (head h))) old (of reuse))
+        (with_chain (with_chain chains reuse (chains reuse ++ old ∷ [])) (head h) (xs ++ s ∷ ys))
+    unfolding link_by
+    formed_replace_by = formed_replace_at _ _ _ h _ s g t f xs old ys d (before_slot i owner chains n h g.disjoint z xs old ys d)
 
-    pub formed-remove-by : WellFormed (linkBy n i Remove h old s) (give (give owner s (of reuse)) old (of reuse))
-        (withChain (withChain chains reuse (chains reuse ++ old ∷ s ∷ [])) (head h) (xs ++ ys))
-    unfolding linkBy
-    formed-remove-by = formed-remove-at _ _ _ h _ s g t f xs old ys d (before-slot i owner chains n h g.disjoint z xs old ys d)
+    pub formed_remove_by : WellFormed (link_by n i Remove h old s) (give (give owner s (of reuse)) old (of reuse))
+        (with_chain (with_chain chains reuse (chains reuse ++ old ∷ s ∷ [])) (head h) (xs ++ ys))
+    unfolding link_by
+    formed_remove_by = formed_remove_at _ _ _ h _ s g t f xs old ys d (before_slot i owner chains n h g.disjoint z xs old ys d)

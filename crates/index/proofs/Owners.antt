@@ -10,8 +10,8 @@ use borrow.Author.Tests.{eq-eqb, ne_eqb, eqb-true, eqb-false}
 use Rattle.index.specs.Index.{Chain, reuse, head}
 use Rattle.prelude.specs.Members.{In}
 use Rattle.index.specs.Linked.{Owner, free, of, Owned}
-use Rattle.index.proofs.defs.Linked.{sameChain, give, withChain}
-use Rattle.prelude.proofs.Paths.{in-mid, mid-in}
+use Rattle.index.proofs.defs.Linked.{same_chain, give, with_chain}
+use Rattle.prelude.proofs.Paths.{in_mid, mid_in}
 
 -- two numbers are the same or not, as a test and as a fact
 pub data Told (x y : ℕ) : Type 0 where
@@ -27,24 +27,24 @@ told x y = go (eqb x y) refl
 
 -- and two chains
 pub data Which (c k : Chain) : Type 0 where
-  that : sameChain c k ≡ true → c ≡ k → Which c k
-  other : sameChain c k ≡ false → (c ≡ k → ⊥) → Which c k
+  that : same_chain c k ≡ true → c ≡ k → Which c k
+  other : same_chain c k ≡ false → (c ≡ k → ⊥) → Which c k
 
-pub apart-heads : (h k : ℕ) → head h ≡ head k → h ≡ k
-apart-heads h k e = cc
+pub apart_heads : (h k : ℕ) → head h ≡ head k → h ≡ k
+apart_heads h k e = cc
 
-pub reuse-apart : (h : ℕ) → reuse ≡ head h → ⊥
-reuse-apart h e = let z : ◌≡◌ {A = ℕ} 0 1 = cc in omega arith
+pub reuse_apart : (h : ℕ) → reuse ≡ head h → ⊥
+reuse_apart h e = let z : ◌≡◌ {A = ℕ} 0 1 = cc in omega arith
 
 pub which : (c k : Chain) → Which c k
 which reuse reuse = that refl refl
-which reuse (head k) = other refl (reuse-apart k)
-which (head h) reuse = other refl (λ e. reuse-apart h (sym e))
+which reuse (head k) = other refl (reuse_apart k)
+which (head h) reuse = other refl (λ e. reuse_apart h (sym e))
 which (head h) (head k) = go (told h k)
   where
     go : Told h k → Which (head h) (head k)
     go (is t e) = that t (ap head e)
-    go (isnt t n) = other t (λ e. n (apart-heads h k e))
+    go (isnt t n) = other t (λ e. n (apart_heads h k e))
 
 pub free_of : (c : Chain) → free ≡ of c → ⊥
 free_of c e = let z : ◌≡◌ {A = ℕ} 0 1 = cc in omega arith
@@ -52,47 +52,47 @@ free_of c e = let z : ◌≡◌ {A = ℕ} 0 1 = cc in omega arith
 pub of-of : (c k : Chain) → of c ≡ of k → c ≡ k
 of-of c k e = cc
 
-pub give-same : (owner : ℕ → Owner) (s : ℕ) (o : Owner) (x : ℕ) → x ≡ s → give owner s o x ≡ o
+pub give_same : (owner : ℕ → Owner) (s : ℕ) (o : Owner) (x : ℕ) → x ≡ s → give owner s o x ≡ o
 unfolding give
-give-same owner s o x e = rw (eq-eqb x s e)
+give_same owner s o x e = rw (eq-eqb x s e)
 
-pub give-other : (owner : ℕ → Owner) (s : ℕ) (o : Owner) (x : ℕ) → (x ≡ s → ⊥) → give owner s o x ≡ owner x
+pub give_other : (owner : ℕ → Owner) (s : ℕ) (o : Owner) (x : ℕ) → (x ≡ s → ⊥) → give owner s o x ≡ owner x
 unfolding give
-give-other owner s o x n = rw (ne_eqb x s n)
+give_other owner s o x n = rw (ne_eqb x s n)
 
-pub with-same : (chains : Chain → List ℕ) (c : Chain) (xs : List ℕ) → withChain chains c xs c ≡ xs
-unfolding withChain
-with-same chains c xs = go (which c c)
+pub with_same : (chains : Chain → List ℕ) (c : Chain) (xs : List ℕ) → with_chain chains c xs c ≡ xs
+unfolding with_chain
+with_same chains c xs = go (which c c)
   where
-    go : Which c c → cond (sameChain c c) xs (chains c) ≡ xs
+    go : Which c c → cond (same_chain c c) xs (chains c) ≡ xs
     go (that t e) = rw t
     go (other t n) = absurd (n refl)
 
-pub with-other : (chains : Chain → List ℕ) (c : Chain) (xs : List ℕ) (k : Chain) → (k ≡ c → ⊥) → withChain chains c xs k ≡ chains k
-unfolding withChain
-with-other chains c xs k n = go (which k c)
+pub with_other : (chains : Chain → List ℕ) (c : Chain) (xs : List ℕ) (k : Chain) → (k ≡ c → ⊥) → with_chain chains c xs k ≡ chains k
+unfolding with_chain
+with_other chains c xs k n = go (which k c)
   where
-    go : Which k c → cond (sameChain k c) xs (chains k) ≡ chains k
+    go : Which k c → cond (same_chain k c) xs (chains k) ≡ chains k
     go (that t e) = absurd (n e)
     go (other t _) = rw t
 
 -- a fact of every chain, by the chain that changed and the others
-pub with_all : (P : Chain → List ℕ → Type 0) (chains : Chain → List ℕ) (c : Chain) (xs : List ℕ) → P c xs
-    → ((k : Chain) → (k ≡ c → ⊥) → P k (chains k)) → (k : Chain) → P k (withChain chains c xs k)
-with_all P chains c xs p q k = go (which k c)
+pub with-all : (P : Chain → List ℕ → Type 0) (chains : Chain → List ℕ) (c : Chain) (xs : List ℕ) → P c xs
+    → ((k : Chain) → (k ≡ c → ⊥) → P k (chains k)) → (k : Chain) → P k (with_chain chains c xs k)
+with-all P chains c xs p q k = go (which k c)
   where
-    go : Which k c → P k (withChain chains c xs k)
-    go (that t e) = rw (e, with-same chains c xs) p
-    go (other t n) = rw (with-other chains c xs k n) (q k n)
+    go : Which k c → P k (with_chain chains c xs k)
+    go (that t e) = rw (e, with_same chains c xs) p
+    go (other t n) = rw (with_other chains c xs k n) (q k n)
 
 -- s, which nobody had, joins chain c
-pub owned-add : (owner : ℕ → Owner) (chains : Chain → List ℕ) (c : Chain) (s : ℕ) (xs ys : List ℕ) → Owned owner chains
+pub owned_add : (owner : ℕ → Owner) (chains : Chain → List ℕ) (c : Chain) (s : ℕ) (xs ys : List ℕ) → Owned owner chains
     → chains c ≡ xs ++ ys → owner s ≡ free
-    → Owned (give owner s (of c)) (withChain chains c (xs ++ s ∷ ys))
-owned-add owner chains c s xs ys o e f =
+    → Owned (give owner s (of c)) (with_chain chains c (xs ++ s ∷ ys))
+owned_add owner chains c s xs ys o e f =
     record {
-      mine = with_all Mine chains c (xs ++ s ∷ ys) (λ x m. here x (in-mid x s xs ys m)) (λ k n x m. there k x m);
-      has = with_all Has chains c (xs ++ s ∷ ys) back back-there;
+      mine = with-all Mine chains c (xs ++ s ∷ ys) (λ x m. here x (in_mid x s xs ys m)) (λ k n x m. there k x m);
+      has = with-all Has chains c (xs ++ s ∷ ys) back back_there;
     }
   where
     Mine : Chain → List ℕ → Type 0
@@ -105,35 +105,35 @@ owned-add owner chains c s xs ys o e f =
     unlike k x p d = free_of k (sym f ∙ ap owner (sym d) ∙ p)
 
     there : (k : Chain) (x : ℕ) → In x (chains k) → give owner s (of c) x ≡ of k
-    there k x m = give-other owner s (of c) x (unlike k x (o.mine k x m)) ∙ o.mine k x m
+    there k x m = give_other owner s (of c) x (unlike k x (o.mine k x m)) ∙ o.mine k x m
 
     here : (x : ℕ) → (x ≡ s) ⊎ In x (xs ++ ys) → give owner s (of c) x ≡ of c
-    here x (inl d) = give-same owner s (of c) x d
+    here x (inl d) = give_same owner s (of c) x d
     here x (inr m) = there c x (rw e m)
 
     back : (x : ℕ) → give owner s (of c) x ≡ of c → In x (xs ++ s ∷ ys)
     back x p = go (told x s)
       where
         go : Told x s → In x (xs ++ s ∷ ys)
-        go (is t d) = mid-in x s xs ys (inl d)
-        go (isnt t n) = mid-in x s xs ys (inr (rw e at (o.has c x (sym (give-other owner s (of c) x n) ∙ p))))
+        go (is t d) = mid_in x s xs ys (inl d)
+        go (isnt t n) = mid_in x s xs ys (inr (rw e at (o.has c x (sym (give_other owner s (of c) x n) ∙ p))))
 
-    back-there : (k : Chain) → (k ≡ c → ⊥) → (x : ℕ) → give owner s (of c) x ≡ of k → In x (chains k)
-    back-there k n x p = go (told x s)
+    back_there : (k : Chain) → (k ≡ c → ⊥) → (x : ℕ) → give owner s (of c) x ≡ of k → In x (chains k)
+    back_there k n x p = go (told x s)
       where
         go : Told x s → In x (chains k)
-        go (is t d) = absurd (n (of-of k c (sym p ∙ give-same owner s (of c) x d)))
-        go (isnt t u) = o.has k x (sym (give-other owner s (of c) x u) ∙ p)
+        go (is t d) = absurd (n (of-of k c (sym p ∙ give_same owner s (of c) x d)))
+        go (isnt t u) = o.has k x (sym (give_other owner s (of c) x u) ∙ p)
 
 -- s leaves chain c, where it stood once
-pub owned-drop : (owner : ℕ → Owner) (chains : Chain → List ℕ) (c : Chain) (s : ℕ) (xs ys : List ℕ) → Owned owner chains
+pub owned_drop : (owner : ℕ → Owner) (chains : Chain → List ℕ) (c : Chain) (s : ℕ) (xs ys : List ℕ) → Owned owner chains
     → chains c ≡ xs ++ s ∷ ys
     → (In s (xs ++ ys) → ⊥)
-    → Owned (give owner s free) (withChain chains c (xs ++ ys))
-owned-drop owner chains c s xs ys o e alone =
+    → Owned (give owner s free) (with_chain chains c (xs ++ ys))
+owned_drop owner chains c s xs ys o e alone =
     record {
-      mine = with_all Mine chains c (xs ++ ys) here there;
-      has = with_all Has chains c (xs ++ ys) back (λ k n x p. back-there k x p);
+      mine = with-all Mine chains c (xs ++ ys) here there;
+      has = with-all Has chains c (xs ++ ys) back (λ k n x p. back_there k x p);
     }
   where
     Mine : Chain → List ℕ → Type 0
@@ -143,63 +143,63 @@ owned-drop owner chains c s xs ys o e alone =
     Has k l = (x : ℕ) → give owner s free x ≡ of k → In x l
 
     hers : owner s ≡ of c
-    hers = o.mine c s (rw e (mid-in s s xs ys (inl refl)))
+    hers = o.mine c s (rw e (mid_in s s xs ys (inl refl)))
 
     here : (x : ℕ) → In x (xs ++ ys) → give owner s free x ≡ of c
-    here x m = give-other owner s free x (λ d. alone (rw d at m)) ∙ o.mine c x (rw e (mid-in x s xs ys (inr m)))
+    here x m = give_other owner s free x (λ d. alone (rw d at m)) ∙ o.mine c x (rw e (mid_in x s xs ys (inr m)))
 
     there : (k : Chain) → (k ≡ c → ⊥) → (x : ℕ) → In x (chains k) → give owner s free x ≡ of k
     there k n x m =
-        give-other owner s free x (λ d. n (of-of k c (sym (o.mine k x m) ∙ ap owner d ∙ hers))) ∙ o.mine k x m
+        give_other owner s free x (λ d. n (of-of k c (sym (o.mine k x m) ∙ ap owner d ∙ hers))) ∙ o.mine k x m
 
-    isnt-s : (k : Chain) (x : ℕ) → give owner s free x ≡ of k → x ≡ s → ⊥
-    isnt-s k x p d = free_of k (sym (give-same owner s free x d) ∙ p)
+    isnt_s : (k : Chain) (x : ℕ) → give owner s free x ≡ of k → x ≡ s → ⊥
+    isnt_s k x p d = free_of k (sym (give_same owner s free x d) ∙ p)
 
-    back-there : (k : Chain) (x : ℕ) → give owner s free x ≡ of k → In x (chains k)
-    back-there k x p = o.has k x (sym (give-other owner s free x (isnt-s k x p)) ∙ p)
+    back_there : (k : Chain) (x : ℕ) → give owner s free x ≡ of k → In x (chains k)
+    back_there k x p = o.has k x (sym (give_other owner s free x (isnt_s k x p)) ∙ p)
 
     back : (x : ℕ) → give owner s free x ≡ of c → In x (xs ++ ys)
-    back x p = go (in-mid x s xs ys (rw e at (back-there c x p)))
+    back x p = go (in_mid x s xs ys (rw e at (back_there c x p)))
       where
         go : (x ≡ s) ⊎ In x (xs ++ ys) → In x (xs ++ ys)
-        go (inl d) = absurd (isnt-s c x p d)
+        go (inl d) = absurd (isnt_s c x p d)
         go (inr m) = m
 
-pub with-twice : (chains : Chain → List ℕ) (c : Chain) (xs ys : List ℕ) → withChain (withChain chains c xs) c ys ≡ withChain chains c ys
-with-twice chains c xs ys = fun_ext (λ k. go k (which k c))
+pub with_twice : (chains : Chain → List ℕ) (c : Chain) (xs ys : List ℕ) → with_chain (with_chain chains c xs) c ys ≡ with_chain chains c ys
+with_twice chains c xs ys = fun_ext (λ k. go k (which k c))
   where
-    go : (k : Chain) → Which k c → withChain (withChain chains c xs) c ys k ≡ withChain chains c ys k
-    go k (that t e) = rw e (with-same (withChain chains c xs) c ys ∙ sym (with-same chains c ys))
-    go k (other t n) = with-other (withChain chains c xs) c ys k n ∙ with-other chains c xs k n ∙ sym (with-other chains c ys k n)
+    go : (k : Chain) → Which k c → with_chain (with_chain chains c xs) c ys k ≡ with_chain chains c ys k
+    go k (that t e) = rw e (with_same (with_chain chains c xs) c ys ∙ sym (with_same chains c ys))
+    go k (other t n) = with_other (with_chain chains c xs) c ys k n ∙ with_other chains c xs k n ∙ sym (with_other chains c ys k n)
 
-pub with-swap : (chains : Chain → List ℕ) (c d : Chain) (xs ys : List ℕ) → (c ≡ d → ⊥)
-    → withChain (withChain chains c xs) d ys ≡ withChain (withChain chains d ys) c xs
-with-swap chains c d xs ys n = fun_ext (λ k. go k (which k c) (which k d))
+pub with_swap : (chains : Chain → List ℕ) (c d : Chain) (xs ys : List ℕ) → (c ≡ d → ⊥)
+    → with_chain (with_chain chains c xs) d ys ≡ with_chain (with_chain chains d ys) c xs
+with_swap chains c d xs ys n = fun_ext (λ k. go k (which k c) (which k d))
   where
-    go : (k : Chain) → Which k c → Which k d → withChain (withChain chains c xs) d ys k ≡ withChain (withChain chains d ys) c xs k
+    go : (k : Chain) → Which k c → Which k d → with_chain (with_chain chains c xs) d ys k ≡ with_chain (with_chain chains d ys) c xs k
     go k (that t e) (that u g) = absurd (n (sym e ∙ g))
     go k (that t e) (other u g) =
-        with-other (withChain chains c xs) d ys k g ∙ rw e (with-same chains c xs ∙ sym (with-same (withChain chains d ys) c xs))
+        with_other (with_chain chains c xs) d ys k g ∙ rw e (with_same chains c xs ∙ sym (with_same (with_chain chains d ys) c xs))
     go k (other t m) (that u g) =
-        rw g (with-same (withChain chains c xs) d ys ∙ sym (with-same chains d ys)) ∙ sym (with-other (withChain chains d ys) c xs k m)
+        rw g (with_same (with_chain chains c xs) d ys ∙ sym (with_same chains d ys)) ∙ sym (with_other (with_chain chains d ys) c xs k m)
     go k (other t m) (other u g) =
-        with-other (withChain chains c xs) d ys k g ∙ with-other chains c xs k m ∙ sym (with-other chains d ys k g) ∙ sym
-        (with-other (withChain chains d ys) c xs k m)
+        with_other (with_chain chains c xs) d ys k g ∙ with_other chains c xs k m ∙ sym (with_other chains d ys k g) ∙ sym
+        (with_other (with_chain chains d ys) c xs k m)
 
-pub give-twice : (owner : ℕ → Owner) (s : ℕ) (o p : Owner) → give (give owner s o) s p ≡ give owner s p
-give-twice owner s o p = fun_ext (λ x. go x (told x s))
+pub give_twice : (owner : ℕ → Owner) (s : ℕ) (o p : Owner) → give (give owner s o) s p ≡ give owner s p
+give_twice owner s o p = fun_ext (λ x. go x (told x s))
   where
     go : (x : ℕ) → Told x s → give (give owner s o) s p x ≡ give owner s p x
-    go x (is t e) = give-same (give owner s o) s p x e ∙ sym (give-same owner s p x e)
-    go x (isnt t n) = give-other (give owner s o) s p x n ∙ give-other owner s o x n ∙ sym (give-other owner s p x n)
+    go x (is t e) = give_same (give owner s o) s p x e ∙ sym (give_same owner s p x e)
+    go x (isnt t n) = give_other (give owner s o) s p x n ∙ give_other owner s o x n ∙ sym (give_other owner s p x n)
 
-pub give-swap : (owner : ℕ → Owner) (s t : ℕ) (o p : Owner) → (s ≡ t → ⊥) → give (give owner s o) t p ≡ give (give owner t p) s o
-give-swap owner s t o p n = fun_ext (λ x. go x (told x s) (told x t))
+pub give_swap : (owner : ℕ → Owner) (s t : ℕ) (o p : Owner) → (s ≡ t → ⊥) → give (give owner s o) t p ≡ give (give owner t p) s o
+give_swap owner s t o p n = fun_ext (λ x. go x (told x s) (told x t))
   where
     go : (x : ℕ) → Told x s → Told x t → give (give owner s o) t p x ≡ give (give owner t p) s o x
     go x (is a e) (is b g) = absurd (n (sym e ∙ g))
-    go x (is a e) (isnt b g) = give-other (give owner s o) t p x g ∙ give-same owner s o x e ∙ sym (give-same (give owner t p) s o x e)
-    go x (isnt a m) (is b g) = give-same (give owner s o) t p x g ∙ sym (give-other (give owner t p) s o x m ∙ give-same owner t p x g)
+    go x (is a e) (isnt b g) = give_other (give owner s o) t p x g ∙ give_same owner s o x e ∙ sym (give_same (give owner t p) s o x e)
+    go x (isnt a m) (is b g) = give_same (give owner s o) t p x g ∙ sym (give_other (give owner t p) s o x m ∙ give_same owner t p x g)
     go x (isnt a m) (isnt b g) =
-        give-other (give owner s o) t p x g ∙ give-other owner s o x m ∙ sym
-        (give-other (give owner t p) s o x m ∙ give-other owner t p x g)
+        give_other (give owner s o) t p x g ∙ give_other owner s o x m ∙ sym
+        (give_other (give owner t p) s o x m ∙ give_other owner t p x g)

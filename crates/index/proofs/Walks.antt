@@ -7,28 +7,28 @@ use native.Mathlib.Omega.{arith}
 use lib.Dec.{eqb, ltb}
 use lib.ListN.{length, get_or}
 use borrow.Author.Tests.{lt-ltb, le-ltb, eq-eqb, ne_eqb, ltb-false, eqb-false}
-use Rattle.prelude.proofs.Choice.{pick_true, pick-false}
-use Rattle.layout.specs.Size.{slotsIn}
+use Rattle.prelude.proofs.Choice.{pick_true, pick_false}
+use Rattle.layout.specs.Size.{slots_in}
 use Rattle.index.specs.Index.{head_of}
-use Rattle.index.specs.Walk.{walk, slotKey, search}
+use Rattle.index.specs.Walk.{walk, slot_key, search}
 use Rattle.index.specs.declared.Found.{Found}
 use Rattle.index.specs.declared.Found.TheVariants.{At, Missing, BadChain}
 
 -- before a turn: what is left of the walk is the whole search
 pub record Going (l : ℕ) (image heads next : List ℕ) (n key at prev compared left : ℕ) : Type 0 where
-  pub at-fits : at < 2 ^ 32
+  pub at_fits : at < 2 ^ 32
   pub count : compared + left ≡ n
-  pub rest : walk (slotKey l image) next n key left compared prev at ≡ search l image heads next key
+  pub rest : walk (slot_key l image) next n key left compared prev at ≡ search l image heads next key
 
 -- h is the key's head
-pub begins : (l : ℕ) (image heads next : List ℕ) (n key h : ℕ) → slotsIn image ≡ n → h ≡ head_of key (length heads)
+pub begins : (l : ℕ) (image heads next : List ℕ) (n key h : ℕ) → slots_in image ≡ n → h ≡ head_of key (length heads)
     → get_or heads h 0 < 2 ^ 32 → Going l image heads next n key (get_or heads h 0) 0 0 n
 unfolding search
 begins l image heads next n key h e eh f =
     record {
-      at-fits = f;
+      at_fits = f;
       count = omega arith;
-      rest = ap₂ (λ (m k : ℕ). walk (slotKey l image) next m key m 0 0 (get_or heads k 0)) (sym e) eh;
+      rest = ap₂ (λ (m k : ℕ). walk (slot_key l image) next m key m 0 0 (get_or heads k 0)) (sym e) eh;
     }
 
 -- the bound is used up
@@ -37,7 +37,7 @@ pub out : (l : ℕ) (image heads next : List ℕ) (n key at prev compared left :
 unfolding walk
 out l image heads next n key at prev compared left g h =
     let e : left ≡ 0 = omega arith in
-    sym (ap (λ (k : ℕ). walk (slotKey l image) next n key k compared prev at) e) ∙ g.rest
+    sym (ap (λ (k : ℕ). walk (slot_key l image) next n key k compared prev at) e) ∙ g.rest
 
 module _
     (l : ℕ) (image heads next : List ℕ) (n key at prev compared left : ℕ)
@@ -46,12 +46,12 @@ module _
       search l image heads next key ≡
       cond (eqb at 0) (Missing prev compared)
       (cond (ltb n at) BadChain
-      (cond (eqb (slotKey l image at) key) (At at prev (compared + 1))
-      (walk (slotKey l image) next n key (left - 1) (compared + 1) at (get_or next at 0))))
+      (cond (eqb (slot_key l image at) key) (At at prev (compared + 1))
+      (walk (slot_key l image) next n key (left - 1) (compared + 1) at (get_or next at 0))))
   unfolding walk
   turn =
       let e : left ≡ suc (left - 1) = omega arith in
-      sym g.rest ∙ ap (λ (k : ℕ). walk (slotKey l image) next n key k compared prev at) e
+      sym g.rest ∙ ap (λ (k : ℕ). walk (slot_key l image) next n key k compared prev at) e
 
   -- the chain's end
   pub at-end : at ≡ 0 → Missing prev compared ≡ search l image heads next key
@@ -60,27 +60,27 @@ module _
   module _ (z : at ≡ 0 → ⊥) where
     -- a link above n
     pub past : n < at → BadChain ≡ search l image heads next key
-    past h = sym (turn ∙ pick-false (eqb at 0) _ _ (ne_eqb at 0 z) ∙ pick_true (ltb n at) _ _ (lt-ltb n at h))
+    past h = sym (turn ∙ pick_false (eqb at 0) _ _ (ne_eqb at 0 z) ∙ pick_true (ltb n at) _ _ (lt-ltb n at h))
 
     -- `same` tells whether the slot has the key
-    module _ (h : at ≤ n) (same : Bool) (es : same ≡ eqb (slotKey l image at) key) where
+    module _ (h : at ≤ n) (same : Bool) (es : same ≡ eqb (slot_key l image at) key) where
       inner :
           search l image heads next key ≡
-          cond (eqb (slotKey l image at) key) (At at prev (compared + 1))
-          (walk (slotKey l image) next n key (left - 1) (compared + 1) at (get_or next at 0))
-      inner = turn ∙ pick-false (eqb at 0) _ _ (ne_eqb at 0 z) ∙ pick-false (ltb n at) _ _ (le-ltb n at h)
+          cond (eqb (slot_key l image at) key) (At at prev (compared + 1))
+          (walk (slot_key l image) next n key (left - 1) (compared + 1) at (get_or next at 0))
+      inner = turn ∙ pick_false (eqb at 0) _ _ (ne_eqb at 0 z) ∙ pick_false (ltb n at) _ _ (le-ltb n at h)
 
       -- the slot with the key
       pub here : same ≡ true → At at prev (compared + 1) ≡ search l image heads next key
-      here e = sym (inner ∙ pick_true (eqb (slotKey l image at) key) _ _ (sym es ∙ e))
+      here e = sym (inner ∙ pick_true (eqb (slot_key l image at) key) _ _ (sym es ∙ e))
 
       -- another slot
       pub on : same ≡ false → get_or next at 0 < 2 ^ 32 → Going l image heads next n key (get_or next at 0) at (compared + 1) (left - 1)
       on e f =
           record {
-            at-fits = f;
+            at_fits = f;
             count = omega (arith, g.count, more);
-            rest = sym (inner ∙ pick-false (eqb (slotKey l image at) key) _ _ (sym es ∙ e));
+            rest = sym (inner ∙ pick_false (eqb (slot_key l image at) key) _ _ (sym es ∙ e));
           }
 
 -- ---- what a search finds lies inside the index
@@ -95,11 +95,11 @@ either_way : (n : ℕ) (b : Bool) (x y : Found) → (b ≡ true → FoundWithin 
 either_way n true x y f g = f refl
 either_way n false x y f g = g refl
 
-walk-within : (keys : ℕ → ℕ) (next : List ℕ) (n key left compared prev at : ℕ) → prev ≤ n
+walk_within : (keys : ℕ → ℕ) (next : List ℕ) (n key left compared prev at : ℕ) → prev ≤ n
     → FoundWithin n (walk keys next n key left compared prev at)
 unfolding walk
-walk-within keys next n key zero compared prev at h = tt
-walk-within keys next n key (suc left) compared prev at h =
+walk_within keys next n key zero compared prev at h = tt
+walk_within keys next n key (suc left) compared prev at h =
     either_way n (eqb at 0) _ _ (λ e. h)
     (λ z.
     either_way n (ltb n at) _ _ (λ e. tt)
@@ -107,16 +107,16 @@ walk-within keys next n key (suc left) compared prev at h =
     let low : 0 < at = omega (arith, eqb-false at 0 z) in
     let high : at ≤ n = ltb-false n at e in
     either_way n (eqb (keys at) key) _ _ (λ k. (low, high, h))
-    (λ k. walk-within keys next n key left (compared + 1) at (get_or next at 0) high)))
+    (λ k. walk_within keys next n key left (compared + 1) at (get_or next at 0) high)))
 
-module _ (l : ℕ) (image heads next : List ℕ) (n key : ℕ) (e : slotsIn image ≡ n) where
+module _ (l : ℕ) (image heads next : List ℕ) (n key : ℕ) (e : slots_in image ≡ n) where
   within : FoundWithin n (search l image heads next key)
   unfolding search
-  within = rw e (walk-within (slotKey l image) next n key n 0 0 _ (omega arith))
+  within = rw e (walk_within (slot_key l image) next n key n 0 0 _ (omega arith))
 
-  pub at-inside : (slot prev compared : ℕ) → search l image heads next key ≡ At slot prev compared
+  pub at_inside : (slot prev compared : ℕ) → search l image heads next key ≡ At slot prev compared
       → (0 < slot) × (slot ≤ n) × (prev ≤ n)
-  at-inside slot prev compared f = subst (FoundWithin n) f within
+  at_inside slot prev compared f = subst (FoundWithin n) f within
 
-  pub absent-inside : (prev compared : ℕ) → search l image heads next key ≡ Missing prev compared → prev ≤ n
-  absent-inside prev compared f = subst (FoundWithin n) f within
+  pub absent_inside : (prev compared : ℕ) → search l image heads next key ≡ Missing prev compared → prev ≤ n
+  absent_inside prev compared f = subst (FoundWithin n) f within

@@ -20,16 +20,16 @@ after s [] = 0
 after s (x ∷ xs) = cond (eqb x s) (first_of xs) (after s xs)
 
 -- the next of slot s, which stands in chain `place s`; "entry 0 is 0"
-unfoldable pub nextIn : (chains : Chain → List ℕ) → (place : ℕ → Chain) → ℕ → ℕ
-nextIn chains place zero = 0
-nextIn chains place (suc s) = after (suc s) (chains (place (suc s)))
+unfoldable pub next_in : (chains : Chain → List ℕ) → (place : ℕ → Chain) → ℕ → ℕ
+next_in chains place zero = 0
+next_in chains place (suc s) = after (suc s) (chains (place (suc s)))
 
 -- the index of n slots and b heads with these chains, this live count, next version and newest slot
 unfoldable pub chained : (n b : ℕ) → (chains : Chain → List ℕ) → (place : ℕ → Chain) → (live version newest : ℕ) → Index
 chained n b chains place live version newest =
     record {
       heads = tabulate (λ h. first_of (chains (head h))) 0 b;
-      next = tabulate (nextIn chains place) 0 (n + 1);
+      next = tabulate (next_in chains place) 0 (n + 1);
       state =
           record {
             first = first_of (chains reuse);

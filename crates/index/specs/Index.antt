@@ -21,16 +21,16 @@ abbrev pub index_of : (heads next : List ℕ) → State → Index
 index_of heads next s = record { heads = heads; next = next; state = s }
 
 -- a state of zeros
-unfoldable pub noState : State
-noState = record { first = 0; last = 0; live = 0; version = 0; newest = 0 }
+unfoldable pub no_state : State
+no_state = record { first = 0; last = 0; live = 0; version = 0; newest = 0 }
 
 -- the state with these ends of the reuse chain
-abbrev pub withEnds : State → (first last : ℕ) → State
-withEnds s first last = record { first = first; last = last; live = s.live; version = s.version; newest = s.newest }
+abbrev pub with_ends : State → (first last : ℕ) → State
+with_ends s first last = record { first = first; last = last; live = s.live; version = s.version; newest = s.newest }
 
 -- the index with this live count, next version and newest slot
-abbrev pub withCounts : Index → (live version newest : ℕ) → Index
-withCounts i live version newest =
+abbrev pub with_counts : Index → (live version newest : ℕ) → Index
+with_counts i live version newest =
     index_of i.heads i.next
     (record { first = i.state.first; last = i.state.last; live = live; version = version; newest = newest })
 
@@ -56,19 +56,19 @@ ahead i c (suc x) = get_or i.next (suc x) 0
 -- ---- one number written
 
 -- the next of slot s becomes v
-unfoldable pub setNext : Index → (s v : ℕ) → Index
-setNext i s v = index_of i.heads (set i.next s v) i.state
+unfoldable pub set_next : Index → (s v : ℕ) → Index
+set_next i s v = index_of i.heads (set i.next s v) i.state
 
 -- the first slot of a chain becomes v
-unfoldable pub setStart : Index → Chain → ℕ → Index
-setStart i reuse v = index_of i.heads i.next (withEnds i.state v i.state.last)
-setStart i (head h) v = index_of (set i.heads h v) i.next i.state
+unfoldable pub set_start : Index → Chain → ℕ → Index
+set_start i reuse v = index_of i.heads i.next (with_ends i.state v i.state.last)
+set_start i (head h) v = index_of (set i.heads h v) i.next i.state
 
 -- the last slot of the reuse chain becomes v
-unfoldable pub setLast : Index → ℕ → Index
-setLast i v = index_of i.heads i.next (withEnds i.state i.state.first v)
+unfoldable pub set_last : Index → ℕ → Index
+set_last i v = index_of i.heads i.next (with_ends i.state i.state.first v)
 
 -- the link to what follows prev becomes v; prev 0 is the chain's start
 unfoldable pub link : Index → Chain → (prev v : ℕ) → Index
-link i c zero v = setStart i c v
-link i c (suc prev) v = setNext i (suc prev) v
+link i c zero v = set_start i c v
+link i c (suc prev) v = set_next i (suc prev) v

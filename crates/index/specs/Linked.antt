@@ -41,5 +41,5 @@ placed n place x = cond (eqb x 0) free (cond (ltb n x) free (of (place x)))
 -- a well-formed index of n slots and b heads, whose slots stand where `place` says
 pub record ChainsPartition (n b : ℕ) (place : ℕ → Chain) (i : Index) (chains : Chain → List ℕ) : Type 0 where
   pub formed : WellFormed i (placed n place) chains
-  pub next-size : length i.next ≡ n + 1
-  pub heads-size : length i.heads ≡ b
+  pub next_size : length i.next ≡ n + 1
+  pub heads_size : length i.heads ≡ b

@@ -3,9 +3,9 @@
 use Rattle.std.specs.Prelude.{◌≡◌, cond, List, ◌∷◌, ◌++◌, ℕ, zero, suc, ◌+◌, eqb, ltb, length, get_or}
 use Rattle.prelude.specs.Members.{In}
 use Rattle.words.specs.Word.{word}
-use Rattle.layout.specs.Line.{lineA}
+use Rattle.layout.specs.Line.{line_a}
 use Rattle.layout.specs.Record.{key_of}
-use Rattle.layout.specs.Size.{slotsIn}
+use Rattle.layout.specs.Size.{slots_in}
 use Rattle.index.specs.Index.{head_of}
 use Rattle.index.specs.declared.Found.{Found}
 use Rattle.index.specs.declared.Found.TheVariants.{At, Missing, BadChain}
@@ -21,19 +21,19 @@ walk keys next n key (suc left) compared prev at =
     (walk keys next n key left (compared + 1) at (get_or next at 0))))
 
 -- "the first slot with that key": by line A alone
-abbrev pub slotKey : (l : ℕ) → (image : List ℕ) → ℕ → ℕ
-slotKey l image s = key_of l (lineA (word image) s)
+abbrev pub slot_key : (l : ℕ) → (image : List ℕ) → ℕ → ℕ
+slot_key l image s = key_of l (line_a (word image) s)
 
 -- the key's chain from its head on
 unfoldable pub search : (l : ℕ) → (image heads next : List ℕ) → (key : ℕ) → Found
 search l image heads next key =
-    walk (slotKey l image) next (slotsIn image) key (slotsIn image) 0 0 (get_or heads (head_of key (length heads)) 0)
+    walk (slot_key l image) next (slots_in image) key (slots_in image) 0 0 (get_or heads (head_of key (length heads)) 0)
 
 -- document 02, A.4: "The chain search shall report how many slots it compared"; a bad chain has none
-unfoldable pub comparedIn : Found → ℕ
-comparedIn (At slot prev compared) = compared
-comparedIn (Missing prev compared) = compared
-comparedIn BadChain = 0
+unfoldable pub compared_in : Found → ℕ
+compared_in (At slot prev compared) = compared
+compared_in (Missing prev compared) = compared
+compared_in BadChain = 0
 
 -- A.4: "The count of slots compared equals the place of the key in its chain, or the chain's whole length when it is
 -- absent": of key k and a chain of slots, where `keys` gives a slot's key; the first slot of the chain has place 1
@@ -44,7 +44,7 @@ pub data Counted (keys : ℕ → ℕ) (k : ℕ) (chain : List ℕ) : Found → T
       → Counted keys k chain (Missing prev compared)
 
 -- 11 by the chain
-unfoldable pub chainFault : Found → ℕ
-chainFault (At slot prev compared) = 0
-chainFault (Missing prev compared) = 0
-chainFault BadChain = 11
+unfoldable pub chain_fault : Found → ℕ
+chain_fault (At slot prev compared) = 0
+chain_fault (Missing prev compared) = 0
+chain_fault BadChain = 11

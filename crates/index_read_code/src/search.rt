@@ -1,11 +1,11 @@
 // Following a key's chain.
 ghost use Rattle.std.specs.Prelude.{◌≡◌};
-ghost use Rattle.prelude.specs.Refusal.{unlessRefused};
-ghost use Rattle.layout.specs.Record.{Layout, keyWith};
+ghost use Rattle.prelude.specs.Refusal.{unless_refused};
+ghost use Rattle.layout.specs.Record.{Layout, key_with};
 ghost use Rattle.layout.specs.inner.Sized.{Sized};
-ghost use Rattle.index.specs.Walk.{search, comparedIn};
+ghost use Rattle.index.specs.Walk.{search, compared_in};
 ghost use Rattle.index.specs.declared.Lookup.TheVariants.{Refused, Accepted};
-ghost use Rattle.index.specs.inner.Lookup.{lookupBy};
+ghost use Rattle.index.specs.inner.Lookup.{lookup_by};
 
 use crate::head::head_of;
 use index::{Found, Lookup, Place};
@@ -22,7 +22,7 @@ pub fn find_key(
     high: u64,
 ) -> Found
     requires { Layout l × Sized image.now heads.now next.now n }
-    ensures result { result ≡ search l image.now heads.now next.now (keyWith low high) }
+    ensures result { result ≡ search l image.now heads.now next.now (key_with low high) }
 {
     let head = head_of(low, heads.len());
     let mut at = heads[head];
@@ -54,7 +54,7 @@ pub fn find_key(
 
 // The slots compared, by what the key's chain has.
 fn compared_in(found: Found) -> u32
-    ensures { result ≡ comparedIn found }
+    ensures { result ≡ compared_in found }
 {
     match found {
         Found::At {
@@ -69,7 +69,7 @@ fn compared_in(found: Found) -> u32
 
 // The lookup of a call by what the key's chain has; fault is the call's refusal then.
 pub fn looked_up(fault: u32, found: Found) -> Lookup
-    ensures result { result ≡ lookupBy fault found }
+    ensures result { result ≡ lookup_by fault found }
 {
     if fault != 0 {
         return Lookup::Refused {
@@ -99,7 +99,7 @@ pub fn looked_up(fault: u32, found: Found) -> Lookup
 
 // The same of a call that goes by the key's place, once that is known.
 pub fn unless_refused(fault: u32, place: Place, compared: u32) -> Lookup
-    ensures result { result ≡ unlessRefused fault (Accepted place compared) (Refused fault compared) }
+    ensures result { result ≡ unless_refused fault (Accepted place compared) (Refused fault compared) }
 {
     if fault != 0 {
         return Lookup::Refused {

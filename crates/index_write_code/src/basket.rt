@@ -1,11 +1,11 @@
 // A basket's index writes: its slots leave the reuse chain, and then each key is linked and appended.
 ghost use Rattle.std.specs.Prelude.{◌≡◌, List, cond, ℕ, ◌+◌, ◌<◌, eqb, length, get_or};
 ghost use Rattle.index.specs.Index.{index_of};
-ghost use Rattle.index.specs.Basket.{takeAll, slotBefore, linkBy};
+ghost use Rattle.index.specs.Basket.{all_taken_of, slot_before, link_by};
 ghost use Rattle.index.specs.declared.Action.TheVariants.{Write, Remove};
 ghost use Rattle.index.specs.declared.Mode.TheVariants.{Insert, Replace};
-ghost use Rattle.index.specs.inner.Parts.{linkNext};
-ghost use Rattle.index.specs.inner.Basket.{takensFrom, TakensInside, leftState, LinksInside};
+ghost use Rattle.index.specs.inner.Parts.{link_next};
+ghost use Rattle.index.specs.inner.Basket.{takens_from, TakensInside, left_state, LinksInside};
 
 use crate::change::{append_slot, link};
 use index::{Action, Mode, State};
@@ -23,8 +23,8 @@ fn last_without(last: u32, slot: u32, prev: u32) -> u32
 // A slot leaves the reuse chain; prev is the slot before it that stays, 0 for none.
 fn take_slot(next: &mut [u32], state: State, slot: u32, prev: u32) -> State
     requires { (slot < length next.old) × (prev < length next.old) }
-    ensures { (result ≡ leftState next.old state slot prev) ×
-        (next.new ≡ linkNext next.old prev (get_or next.old slot 0)) }
+    ensures { (result ≡ left_state next.old state slot prev) ×
+        (next.new ≡ link_next next.old prev (get_or next.old slot 0)) }
 {
     let at = slot as usize;
     let follow = next[at];
@@ -58,7 +58,7 @@ pub fn take_all(
     count: usize,
 ) -> State
     requires { TakensInside slots prevs count (length next.old) }
-    ensures result { (heads : List ℕ) → index_of heads next.new result ≡ takeAll (index_of heads next.old state) (takensFrom slots prevs 0 count) }
+    ensures result { (heads : List ℕ) → index_of heads next.new result ≡ all_taken_of (index_of heads next.old state) (takens_from slots prevs 0 count) }
 {
     let mut rest = state;
     let mut j = 0;
@@ -72,7 +72,7 @@ pub fn take_all(
 // The slot from which a link leads to the target, 0 for the start of the chain, from the chain's first slot on.
 fn slot_before(next: &[u32], n: usize, target: u32, first: u32) -> u32
     requires { length next.now ≡ n + 1 }
-    ensures { result ≡ slotBefore next.now n n target 0 first }
+    ensures { result ≡ slot_before next.now n n target 0 first }
 {
     let mut prev: u32 = 0;
     let mut at = first;
@@ -106,7 +106,7 @@ fn insert_linked(
 ) -> State
     requires { LinksInside heads.old next.old n state h 0 slot }
     ensures { index_of heads.new next.new result
-        ≡ linkBy n (index_of heads.old next.old state) (Write Insert) h 0 slot }
+        ≡ link_by n (index_of heads.old next.old state) (Write Insert) h 0 slot }
 {
     let prev = slot_before(next, n, 0, heads[h]);
     let at = slot as usize;
@@ -127,7 +127,7 @@ fn replace_linked(
 ) -> State
     requires { LinksInside heads.old next.old n state h old slot }
     ensures { index_of heads.new next.new result
-        ≡ linkBy n (index_of heads.old next.old state) (Write Replace) h old slot }
+        ≡ link_by n (index_of heads.old next.old state) (Write Replace) h old slot }
 {
     let prev = slot_before(next, n, old, heads[h]);
     let from = old as usize;
@@ -149,7 +149,7 @@ fn remove_linked(
     slot: u32,
 ) -> State
     requires { LinksInside heads.old next.old n state h old slot }
-    ensures { index_of heads.new next.new result ≡ linkBy n (index_of heads.old next.old state) Remove h old slot }
+    ensures { index_of heads.new next.new result ≡ link_by n (index_of heads.old next.old state) Remove h old slot }
 {
     let prev = slot_before(next, n, old, heads[h]);
     let from = old as usize;
@@ -173,7 +173,7 @@ pub fn link_item(
 ) -> State
     requires { LinksInside heads.old next.old n state h old slot }
     ensures result { index_of heads.new next.new result
-        ≡ linkBy n (index_of heads.old next.old state) action h old slot }
+        ≡ link_by n (index_of heads.old next.old state) action h old slot }
 {
     match action {
         Action::Write(mode) => match mode {

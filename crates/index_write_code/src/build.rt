@@ -1,7 +1,7 @@
 // Recovery's index writes: the slots of an order, each pushed to the front of its chain.
 ghost use Rattle.std.specs.Prelude.{◌≡◌, ◌≤◌, ◌<◌, length, replicate};
 ghost use Rattle.index.specs.Index.{index_of};
-ghost use Rattle.index.specs.inner.Build.{push, build, chainFrom, place_in, unbuilt, Ordered};
+ghost use Rattle.index.specs.inner.Build.{push, build, chain_from, place_in, unbuilt, Ordered};
 
 use index::State;
 
@@ -19,7 +19,7 @@ pub fn zero_numbers(list: &mut [u32])
 // The slot goes to the front of its chain: place 0 is reuse, h + 1 the chain of head h.
 fn push_front(heads: &mut [u32], next: &mut [u32], state: State, place: u32, slot: u32) -> State
     requires { (slot < length next.old) × (place ≤ length heads.old) }
-    ensures { index_of heads.new next.new result ≡ push (index_of heads.old next.old state) (chainFrom place) slot }
+    ensures { index_of heads.new next.new result ≡ push (index_of heads.old next.old state) (chain_from place) slot }
 {
     let at = slot as usize;
     if place == 0 {

@@ -1,15 +1,15 @@
 // The index writes of the calls, in document 01's order.
 ghost use Rattle.std.specs.Prelude.{◌≡◌, ◌+◌, ◌-◌, ◌<◌, length};
-ghost use Rattle.index.specs.Index.{index_of, withCounts};
-ghost use Rattle.index.specs.inner.Parts.{WritesInside, PlaceInside, insertNew, replaceHeld, removeHeld, writeAt};
-ghost use Rattle.index.specs.inner.Parts.{liveAt, linkHeads, linkNext, takeState, appendNext, appendState};
+ghost use Rattle.index.specs.Index.{index_of, with_counts};
+ghost use Rattle.index.specs.inner.Parts.{WritesInside, PlaceInside, insert_new, replace_held, remove_held, write_at};
+ghost use Rattle.index.specs.inner.Parts.{live_at, link_heads, link_next, take_state, append_next, append_state};
 
 use index::{Place, State};
 
 // The link to what follows prev in the chain of head h becomes slot; prev 0 is the head itself.
 pub fn link(heads: &mut [u32], next: &mut [u32], h: usize, prev: u32, slot: u32)
     requires { (h < length heads.old) × (prev < length next.old) }
-    ensures result { (heads.new ≡ linkHeads heads.old h prev slot) × (next.new ≡ linkNext next.old prev slot) }
+    ensures result { (heads.new ≡ link_heads heads.old h prev slot) × (next.new ≡ link_next next.old prev slot) }
 {
     if prev == 0 {
         heads[h] = slot;
@@ -22,7 +22,7 @@ pub fn link(heads: &mut [u32], next: &mut [u32], h: usize, prev: u32, slot: u32)
 // The first slot leaves the reuse chain.
 fn take(next: &[u32], state: State) -> State
     requires { state.first < length next.now }
-    ensures { result ≡ takeState next.now state }
+    ensures { result ≡ take_state next.now state }
 {
     let at = state.first as usize;
     let first = next[at];
@@ -47,7 +47,7 @@ fn take(next: &[u32], state: State) -> State
 // The slot joins the end of the reuse chain.
 pub fn append_slot(next: &mut [u32], state: State, slot: u32) -> State
     requires { (slot < length next.old) × (state.last < length next.old) }
-    ensures result { (result ≡ appendState state slot) × (next.new ≡ appendNext next.old state slot) }
+    ensures result { (result ≡ append_state state slot) × (next.new ≡ append_next next.old state slot) }
 {
     let at = slot as usize;
     next[at] = 0;
@@ -75,7 +75,7 @@ pub fn append_slot(next: &mut [u32], state: State, slot: u32) -> State
 fn insert_new(heads: &mut [u32], next: &mut [u32], state: State, h: usize, prev: u32) -> State
     requires { (WritesInside heads.old next.old state h prev prev) × (state.live < 65535) }
     ensures { index_of heads.new next.new result
-        ≡ withCounts (insertNew (index_of heads.old next.old state) h prev) (state.live + 1) (state.version + 1) state.first }
+        ≡ with_counts (insert_new (index_of heads.old next.old state) h prev) (state.live + 1) (state.version + 1) state.first }
 {
     let slot = state.first;
     let rest = take(next, state);
@@ -102,7 +102,7 @@ fn replace_held(
 ) -> State
     requires { WritesInside heads.old next.old state h prev old }
     ensures { index_of heads.new next.new result
-        ≡ withCounts (replaceHeld (index_of heads.old next.old state) h prev old) state.live (state.version + 1)
+        ≡ with_counts (replace_held (index_of heads.old next.old state) h prev old) state.live (state.version + 1)
         state.first }
 {
     let slot = state.first;
@@ -132,7 +132,7 @@ pub fn write_place(
 ) -> State
     requires { PlaceInside heads.old next.old state h place }
     ensures result { index_of heads.new next.new result
-        ≡ withCounts (writeAt (index_of heads.old next.old state) h place) (liveAt state.live place) (state.version + 1)
+        ≡ with_counts (write_at (index_of heads.old next.old state) h place) (live_at state.live place) (state.version + 1)
         state.first }
 {
     match place {
@@ -153,7 +153,7 @@ pub fn remove_held(
 ) -> State
     requires { (WritesInside heads.old next.old state h prev old) × (0 < state.live) }
     ensures result { index_of heads.new next.new result
-        ≡ withCounts (removeHeld (index_of heads.old next.old state) h prev old) (state.live - 1) (state.version + 1)
+        ≡ with_counts (remove_held (index_of heads.old next.old state) h prev old) (state.live - 1) (state.version + 1)
         state.first }
 {
     let slot = state.first;

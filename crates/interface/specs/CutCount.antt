@@ -3,29 +3,29 @@
 use Rattle.std.specs.Prelude.{◌≡◌, Bool, false, cond, List, [], ◌∷◌, ℕ, length}
 use Rattle.std.proofs.Math.Option.{some}
 use Rattle.prelude.specs.Answer.{gives}
-use Rattle.stores.specs.Play.{wordNumbers, values}
-use Rattle.cut_counts.specs.Maps.{sameValue}
-use Rattle.cut_counts.specs.CutCount.{cutCountResult}
-use Rattle.plainmap.specs.World.{World, Call, write, remove, get, locate, callResult}
+use Rattle.stores.specs.Play.{word_numbers, values}
+use Rattle.cut_counts.specs.Maps.{same_value}
+use Rattle.cut_counts.specs.CutCount.{cut_count_result}
+use Rattle.plainmap.specs.World.{World, Call, write, remove, get, locate, call_result}
 use Rattle.plainmap.specs.Plain.{PlainMap}
 use Rattle.plainmap.specs.Claims.{Typed}
 
 -- "a replace by an equal value": the key has the value already
-unfoldable pub isEqualReplace : PlainMap → Call → Bool
-isEqualReplace m (write mode key value) = sameValue (m key) (some value)
-isEqualReplace m (remove key) = false
-isEqualReplace m (get key out) = false
-isEqualReplace m (locate key) = false
+unfoldable pub is_equal_replace : PlainMap → Call → Bool
+is_equal_replace m (write mode key value) = same_value (m key) (some value)
+is_equal_replace m (remove key) = false
+is_equal_replace m (get key out) = false
+is_equal_replace m (locate key) = false
 
 -- how many of the 81 cuts of a call that stores leave the earlier map, and how many the later
-unfoldable pub expectedCounts : PlainMap → Call → List ℕ
-expectedCounts m call = cond (isEqualReplace m call) (81 ∷ 81 ∷ []) (80 ∷ 1 ∷ [])
+unfoldable pub expected_counts : PlainMap → Call → List ℕ
+expected_counts m call = cond (is_equal_replace m call) (81 ∷ 81 ∷ []) (80 ∷ 1 ∷ [])
 
 -- what `count_cuts` answers of every call that stores, where Inv says that the index is the image's own and m its map,
 -- and the two lent slices are as long as the image
 abbrev pub CutsCounted : (l : ℕ) → (Inv : World → PlainMap → Type 0) → Type 0
 CutsCounted l Inv =
-    (w : World) (m : PlainMap) → Inv w m → (call : Call) → Typed l call → ((callResult l w call).stores ≡ [] → ⊥)
+    (w : World) (m : PlainMap) → Inv w m → (call : Call) → Typed l call → ((call_result l w call).stores ≡ [] → ⊥)
     → (copy later : List ℕ) → length copy ≡ length w.image → length later ≡ length w.image
-    → (cutCountResult l w.image (wordNumbers (callResult l w call).stores) (values (callResult l w call).stores) copy later).answer
-    ≡ gives (expectedCounts m call)
+    → (cut_count_result l w.image (word_numbers (call_result l w call).stores) (values (call_result l w call).stores) copy later).answer
+    ≡ gives (expected_counts m call)

@@ -2,14 +2,14 @@
 -- makes the counted stores, if there are any, and recovery comes next, whatever its index held."
 use Rattle.std.specs.Prelude.{Bool, true, cond, List, ℕ}
 use Rattle.prelude.specs.Members.{All}
-use Rattle.stores.specs.Store.{Store, played, standing, allStand}
+use Rattle.stores.specs.Store.{Store, played, standing, all_stand}
 use Rattle.index.specs.Index.{Index}
-use Rattle.plainmap.specs.World.{World, Call, callResult, Restart, restarted}
+use Rattle.plainmap.specs.World.{World, Call, call_result, Restart, restarted}
 use Rattle.calls.specs.Result.{CallResult}
-use Rattle.plainmap.specs.Plain.{PlainMap, Update, updates, plainStep}
+use Rattle.plainmap.specs.Plain.{PlainMap, Update, updates, plain_step}
 use Rattle.prelude.specs.Answer.{refuses}
-use Rattle.plainmap.specs.Claims.{Typed, expectedRefusal}
-use Rattle.plainmap.specs.Baskets.{Basket, basketCallResult, basketUpdates, expectedBasketRefusal, TypedChange}
+use Rattle.plainmap.specs.Claims.{Typed, expected_refusal}
+use Rattle.plainmap.specs.Baskets.{Basket, basket_call_result, basket_updates, expected_basket_refusal, TypedChange}
 pub use Rattle.plainmap.specs.Accepted.{RoundFits, RestartFits}
 
 -- a cut: of each line n the first `counts n` stores stand; and the restart after it
@@ -30,50 +30,50 @@ pub record Effects : Type 0 where
   pub index : Index
 
 -- the image that a cut leaves
-unfoldable pub imageCut : World → Effects → Cut → List ℕ
-imageCut w r cut = played (standing cut.counts r.stores) w.image
+unfoldable pub image_cut : World → Effects → Cut → List ℕ
+image_cut w r cut = played (standing cut.counts r.stores) w.image
 
 module _ {A : Type 0} where
   -- the request of an event
-  abbrev pub requestOf : Event A → A
-  requestOf (done request) = request
-  requestOf (struck request cut) = request
+  abbrev pub request_of : Event A → A
+  request_of (done request) = request
+  request_of (struck request cut) = request
 
   -- the set after an event; `leaves` is what a request leaves
-  unfoldable pub stepBy : (l : ℕ) → (leaves : World → A → Effects) → World → Event A → World
-  stepBy l leaves w (done request) =
+  unfoldable pub step_by : (l : ℕ) → (leaves : World → A → Effects) → World → Event A → World
+  step_by l leaves w (done request) =
       record { image = played (leaves w request).stores w.image; index = (leaves w request).index }
-  stepBy l leaves w (struck request cut) = restarted l (imageCut w (leaves w request) cut) cut.restart
+  step_by l leaves w (struck request cut) = restarted l (image_cut w (leaves w request) cut) cut.restart
 
   -- do all stores of an event stand?
   unfoldable pub is_whole : (leaves : World → A → Effects) → World → Event A → Bool
   is_whole leaves w (done request) = true
-  is_whole leaves w (struck request cut) = allStand cut.counts (leaves w request).stores
+  is_whole leaves w (struck request cut) = all_stand cut.counts (leaves w request).stores
 
 -- "A struck put or remove that was not refused takes its step, wholly done, if all its stores stand; else it is wholly
 -- absent and changes nothing"
-unfoldable pub plainEvent : (stand : Bool) → List Update → (is_refused : Bool) → PlainMap → PlainMap
-plainEvent stand us is_refused m = cond stand (plainStep us is_refused m) m
+unfoldable pub plain_event : (stand : Bool) → List Update → (is_refused : Bool) → PlainMap → PlainMap
+plain_event stand us is_refused m = cond stand (plain_step us is_refused m) m
 
 -- an event in an image of n slots: its request's fields are numbers of their size, and each recovery after its
 -- cut is lent an index of the right size
 pub data FitsBy {A : Type 0} (TypedRequest : A → Type 0) (n : ℕ) : Event A → Type 0 where
-  done-fits : {request : A} → TypedRequest request → FitsBy TypedRequest n (done request)
-  struck-fits : {request : A} {cut : Cut} → TypedRequest request → RestartFits n cut.restart → FitsBy TypedRequest n (struck request cut)
+  done_fits : {request : A} → TypedRequest request → FitsBy TypedRequest n (done request)
+  struck_fits : {request : A} {cut : Cut} → TypedRequest request → RestartFits n cut.restart → FitsBy TypedRequest n (struck request cut)
 
 -- ---- events of the set's calls
 
-abbrev pub effectsOf : CallResult → Effects
-effectsOf r = record { stores = r.stores; index = r.index }
+abbrev pub effects_of : CallResult → Effects
+effects_of r = record { stores = r.stores; index = r.index }
 
 abbrev pub step : (l : ℕ) → World → Event Call → World
-step l w event = stepBy l (λ v call. effectsOf (callResult l v call)) w event
+step l w event = step_by l (λ v call. effects_of (call_result l v call)) w event
 
 -- the plain map after an event in world w: it is told whether all stores stand, the updates, and whether the rules
 -- refuse the call
-abbrev pub mapAfterEvent : (l : ℕ) → World → PlainMap → Event Call → PlainMap
-mapAfterEvent l w m event =
-    plainEvent (is_whole (λ v call. effectsOf (callResult l v call)) w event) (updates (requestOf event)) (refuses (expectedRefusal l w m (requestOf event))) m
+abbrev pub map_after_event : (l : ℕ) → World → PlainMap → Event Call → PlainMap
+map_after_event l w m event =
+    plain_event (is_whole (λ v call. effects_of (call_result l v call)) w event) (updates (request_of event)) (refuses (expected_refusal l w m (request_of event))) m
 
 abbrev pub Fits : (l n : ℕ) → Event Call → Type 0
 Fits l n event = FitsBy (Typed l) n event
@@ -83,13 +83,13 @@ Fits l n event = FitsBy (Typed l) n event
 abbrev pub TypedBasket : (l : ℕ) → Basket → Type 0
 TypedBasket l b = All (TypedChange l) b.changes
 
-abbrev pub basketEffects : (l : ℕ) → World → Basket → Effects
-basketEffects l w b = effectsOf (basketCallResult l w b)
+abbrev pub basket_effects : (l : ℕ) → World → Basket → Effects
+basket_effects l w b = effects_of (basket_call_result l w b)
 
-abbrev pub basketStep : (l : ℕ) → World → Event Basket → World
-basketStep l w event = stepBy l (basketEffects l) w event
+abbrev pub basket_step : (l : ℕ) → World → Event Basket → World
+basket_step l w event = step_by l (basket_effects l) w event
 
 -- the plain map after an event of a basket: all of its changes or none
-abbrev pub mapAfterBasket : (l : ℕ) → World → PlainMap → Event Basket → PlainMap
-mapAfterBasket l w m event =
-    plainEvent (is_whole (basketEffects l) w event) (basketUpdates (requestOf event).changes) (refuses (expectedBasketRefusal l w m (requestOf event))) m
+abbrev pub map_after_basket : (l : ℕ) → World → PlainMap → Event Basket → PlainMap
+map_after_basket l w m event =
+    plain_event (is_whole (basket_effects l) w event) (basket_updates (request_of event).changes) (refuses (expected_basket_refusal l w m (request_of event))) m

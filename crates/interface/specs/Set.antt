@@ -2,71 +2,71 @@
 -- above.
 
 -- sizes, what an image holds, and the keys of a map
-pub use Rattle.layout.specs.Size.{slotsIn}
+pub use Rattle.layout.specs.Size.{slots_in}
 pub use Rattle.layout.specs.Size.{slots_of}
-pub use Rattle.layout.specs.Record.{Layout, keyWith, limit}
+pub use Rattle.layout.specs.Record.{Layout, key_with, limit}
 pub use Rattle.layout.specs.Header.{HeaderOf}
-pub use Rattle.layout.specs.Layouts.{layoutNumber}
-unfoldable pub use Rattle.layout.specs.Header.{indexFault}
+pub use Rattle.layout.specs.Layouts.{layout_number}
+unfoldable pub use Rattle.layout.specs.Header.{index_fault}
 pub use Rattle.table.specs.Complete.{table_of}
-pub use Rattle.table.specs.Table.{holder, nextVersion}
+pub use Rattle.table.specs.Table.{holder, next_version}
 unfoldable pub use Rattle.table.specs.Table.{is_held}
 pub use Rattle.prelude.specs.Keys.{Holds, holds, Keys}
 -- stores and play
-pub use Rattle.stores.specs.Store.{Store, played, standing, allStand}
+pub use Rattle.stores.specs.Store.{Store, played, standing, all_stand}
 unfoldable pub use Rattle.stores.specs.Store.{zipped}
-pub use Rattle.stores.specs.Play.{Played, playEnd}
-pub use Rattle.stores.specs.Play.{playResult, playListResult}
-unfoldable pub use Rattle.stores.specs.Play.{wordNumbers, values, playing, halfCounts}
+pub use Rattle.stores.specs.Play.{Played, play_end}
+pub use Rattle.stores.specs.Play.{play_result, play_list_result}
+unfoldable pub use Rattle.stores.specs.Play.{word_numbers, values, playing, half_counts}
 -- the calls, each with what it answers and leaves
 pub use Rattle.index.specs.declared.State.{State}
 pub use Rattle.index.specs.Index.{Index, Lists, index_of}
-unfoldable pub use Rattle.index.specs.Index.{noState}
+unfoldable pub use Rattle.index.specs.Index.{no_state}
 pub use Rattle.recovery.specs.Recover.{Recovery}
-pub use Rattle.recovery.specs.Recover.{recoverFault, recoverResult}
-unfoldable pub use Rattle.recovery.specs.Recover.{recoverEnd}
+pub use Rattle.recovery.specs.Recover.{recover_fault, recover_result}
+unfoldable pub use Rattle.recovery.specs.Recover.{recover_end}
 pub use Rattle.recovery.specs.declared.Invalidations.{Invalidations}
-unfoldable pub use Rattle.recovery.specs.Invalidation.{storesIn}
+unfoldable pub use Rattle.recovery.specs.Invalidation.{stores_in}
 pub use Rattle.slot_counts.specs.declared.SlotCounts.{SlotCounts}
 pub use Rattle.slot_counts.specs.declared.CountAnswer.{CountAnswer}
 pub use Rattle.slot_counts.specs.declared.CountAnswer.TheVariants.{Counted, Refused as NotCounted}
 pub use Rattle.slot_counts.specs.Count.{CountResult}
-unfoldable pub use Rattle.slot_counts.specs.Count.{countValues, countEnd, countSays, countResult}
+unfoldable pub use Rattle.slot_counts.specs.Count.{count_values, count_end, count_says, count_result}
 pub use Rattle.cut_counts.specs.declared.CutCounts.{CutCounts}
-pub use Rattle.cut_counts.specs.CutCount.{earlierCount, laterCount, cutCountFault, CutCountResult, cutCountEnd}
-unfoldable pub use Rattle.cut_counts.specs.CutCount.{cutCountSays, cutCountResult}
+pub use Rattle.cut_counts.specs.CutCount.{earlier_count, later_count, cut_count_fault, CutCountResult, cut_count_end}
+unfoldable pub use Rattle.cut_counts.specs.CutCount.{cut_count_says, cut_count_result}
 pub use Rattle.calls.specs.Format.{FormatResult}
-pub use Rattle.calls.specs.Format.{formatted, formatEnd}
-unfoldable pub use Rattle.calls.specs.Format.{formatSays, layoutFault, formatFault, formatResult}
+pub use Rattle.calls.specs.Format.{formatted, format_end}
+unfoldable pub use Rattle.calls.specs.Format.{format_says, layout_fault, format_fault, format_result}
 pub use Rattle.calls.specs.Result.{CallResult, ReadOnlyResult}
-pub use Rattle.calls.specs.BasketItems.{changesOf}
-pub use Rattle.calls.specs.BasketBuffers.{BasketBuffers, basketEnd}
-unfoldable pub use Rattle.calls.specs.BasketBuffers.{basketSays, buffersAfterLists}
+pub use Rattle.calls.specs.BasketItems.{changes_of}
+pub use Rattle.calls.specs.BasketBuffers.{BasketBuffers, basket_end}
+unfoldable pub use Rattle.calls.specs.BasketBuffers.{basket_says, buffers_after_lists}
 pub use Rattle.calls.specs.declared.Change.{Change}
 pub use Rattle.calls.specs.declared.GetAnswer.{GetAnswer}
 pub use Rattle.calls.specs.declared.LocateAnswer.{LocateAnswer}
-pub use Rattle.calls.specs.Change.{changeEnd}
+pub use Rattle.calls.specs.Change.{change_end}
 pub use Rattle.index.specs.declared.Mode.{Mode}
 pub use Rattle.index.specs.declared.Mode.TheVariants.{Insert, Replace}
-pub use Rattle.calls.specs.Change.{writeResult, writeResultBy, removeResult, removeResultBy}
-unfoldable pub use Rattle.calls.specs.Change.{changeSays, storesAfter, buffersAfter}
-pub use Rattle.calls.specs.Get.{getEnd}
-pub use Rattle.calls.specs.Get.{getResult}
-unfoldable pub use Rattle.calls.specs.Get.{getSays}
-pub use Rattle.calls.specs.Locate.{locateEnd, locateResult}
-unfoldable pub use Rattle.calls.specs.Locate.{locateSays}
+pub use Rattle.calls.specs.Change.{write_result, write_result_by, remove_result, remove_result_by}
+unfoldable pub use Rattle.calls.specs.Change.{change_says, stores_after, buffers_after}
+pub use Rattle.calls.specs.Get.{get_end}
+pub use Rattle.calls.specs.Get.{get_result}
+unfoldable pub use Rattle.calls.specs.Get.{get_says}
+pub use Rattle.calls.specs.Locate.{locate_end, locate_result}
+unfoldable pub use Rattle.calls.specs.Locate.{locate_says}
 -- the world between calls, and the plain map
 pub use Rattle.plainmap.specs.World.{World, Call, write, remove, get, locate}
 pub use Rattle.plainmap.specs.World.{out_of}
-unfoldable pub use Rattle.plainmap.specs.World.{callResultBy, callResultByRule, callResult, finished, worldAfter, recoveredWorld, invalidatedWorld, restarted}
-unfoldable pub use Rattle.plainmap.specs.World.{readsOnly}
+unfoldable pub use Rattle.plainmap.specs.World.{call_result_by, call_result_by_rule, call_result, finished, world_after, recovered_world, invalidated_world, restarted}
+unfoldable pub use Rattle.plainmap.specs.World.{reads_only}
 pub use Rattle.plainmap.specs.World.{Round, Restart}
-unfoldable pub use Rattle.plainmap.specs.World.{afterRound, afterRounds}
+unfoldable pub use Rattle.plainmap.specs.World.{after_round, after_rounds}
 pub use Rattle.plainmap.specs.Plain.{PlainMap, Update, giving, dropping}
-pub use Rattle.plainmap.specs.Plain.{plainOut}
-unfoldable pub use Rattle.plainmap.specs.Plain.{updates, updated, plainNext, plainStep, ruleFault, lengthAnswer, filled, plainAnswer}
+pub use Rattle.plainmap.specs.Plain.{plain_out}
+unfoldable pub use Rattle.plainmap.specs.Plain.{updates, updated, plain_next, plain_step, rule_fault, length_answer, filled, plain_answer}
 pub use Rattle.plainmap.specs.Accepted.{Accepted, RightSize}
-pub use Rattle.plainmap.specs.Claims.{Typed, write-typed, remove-typed, get_typed, locate-typed, slotsMap, expectedRefusal, expectedAnswer, CallCorrect}
+pub use Rattle.plainmap.specs.Claims.{Typed, write_typed, remove_typed, get_typed, locate_typed, slots_map, expected_refusal, expected_answer, CallCorrect}
 pub use Rattle.plainmap.specs.Claims.{Reads, Unchanged}
 pub use Rattle.plainmap.specs.Room.{SomeTakeable, InsertsNew, RoomCorrect}
 -- baskets
@@ -74,6 +74,6 @@ pub use Rattle.index.specs.declared.Action.{Action}
 pub use Rattle.index.specs.declared.Action.TheVariants.{Write, Remove}
 pub use Rattle.calls.specs.declared.BasketItem.{BasketItem}
 pub use Rattle.calls.specs.declared.BasketAnswer.{BasketAnswer}
-pub use Rattle.calls.specs.Basket.{basketResult, basketResultBy}
-pub use Rattle.plainmap.specs.Baskets.{Basket, BasketCorrect, TypedItem, TypedChange, expectedBasketRefusal}
-unfoldable pub use Rattle.plainmap.specs.Baskets.{basketCallResult, basketCallResultBy, basketCallResultByRule, basketUpdates}
+pub use Rattle.calls.specs.Basket.{basket_result, basket_result_by}
+pub use Rattle.plainmap.specs.Baskets.{Basket, BasketCorrect, TypedItem, TypedChange, expected_basket_refusal}
+unfoldable pub use Rattle.plainmap.specs.Baskets.{basket_call_result, basket_call_result_by, basket_call_result_by_rule, basket_updates}

@@ -5,10 +5,10 @@ use Prim.Native.Nat.{ℕ, zero, suc, ◌+◌, ◌-◌, ◌*◌, ◌/◌, ◌%◌
 use native.Mathlib.Nat.{div-one, div-div-eq-div-mul, pow-succ', min-zero}
 use native.Mathlib.Omega.{arith}
 use lib.ListN.{length, drop, set}
-use Rattle.words.specs.Word.{setBytes}
+use Rattle.words.specs.Word.{set_bytes}
 use Rattle.prelude.specs.Range.{tabulate}
-use Rattle.layout.specs.Record.{valueWord, valueByte}
-use Rattle.layout.specs.Moved.{wordsMoved}
+use Rattle.layout.specs.Record.{value_word, value_byte}
+use Rattle.layout.specs.Moved.{words_moved}
 use Rattle.prelude.proofs.Tabulate.{tabulate-set}
 
 -- the front of a list is the values so far
@@ -20,13 +20,13 @@ module _ (f : ℕ → ℕ) (old : List ℕ) where
   filled_at k j out e filled = filled ∙ ap (λ (x : ℕ). tabulate f 0 x ++ drop x old) e
 
   -- n bytes of a word follow
-  fill-bytes : (k n v : ℕ) (out : List ℕ) → k + n ≤ length old → ((j : ℕ) → j < n → v / 256 ^ j % 256 ≡ f (k + j))
-      → Filled f old k out → Filled f old (k + n) (setBytes out k n v)
-  unfolding setBytes
-  fill-bytes k zero v out room digit filled = filled_at k (k + 0) out (omega arith) filled
-  fill-bytes k (suc n) v out room digit filled =
+  fill_bytes : (k n v : ℕ) (out : List ℕ) → k + n ≤ length old → ((j : ℕ) → j < n → v / 256 ^ j % 256 ≡ f (k + j))
+      → Filled f old k out → Filled f old (k + n) (set_bytes out k n v)
+  unfolding set_bytes
+  fill_bytes k zero v out room digit filled = filled_at k (k + 0) out (omega arith) filled
+  fill_bytes k (suc n) v out room digit filled =
       filled_at (suc k + n) (k + suc n) _ (omega arith)
-      (fill-bytes (suc k) n (v / 256) (set out k (v % 256)) (omega arith) rest
+      (fill_bytes (suc k) n (v / 256) (set out k (v % 256)) (omega arith) rest
       (filled_at (k + 1) (suc k) _ (omega arith) (tabulate-set f k old out (v % 256) (omega arith) filled first)))
     where
       first : v % 256 ≡ f k
@@ -38,11 +38,11 @@ module _ (f : ℕ → ℕ) (old : List ℕ) where
           ∙ digit (suc j) (omega arith) ∙ ap f (omega arith)
 
 -- the bytes of word i of a value
-word-digits : (l : ℕ) (A B : ℕ → ℕ) (i v : ℕ) → v ≡ valueWord l A B i → (j : ℕ) → j < 8 → v / 256 ^ j % 256 ≡ valueByte l A B (8 * i + j)
-unfolding valueByte
-word-digits l A B i v e j h =
+word_digits : (l : ℕ) (A B : ℕ → ℕ) (i v : ℕ) → v ≡ value_word l A B i → (j : ℕ) → j < 8 → v / 256 ^ j % 256 ≡ value_byte l A B (8 * i + j)
+unfolding value_byte
+word_digits l A B i v e j h =
     ap (λ (x : ℕ). x / 256 ^ j % 256) e
-    ∙ ap₂ (λ (x y : ℕ). valueWord l A B x / 256 ^ y % 256) (let p : i ≡ (8 * i + j) / 8 = omega arith in p) (let q : j ≡ (8 * i + j) % 8 = omega arith in q)
+    ∙ ap₂ (λ (x y : ℕ). value_word l A B x / 256 ^ y % 256) (let p : i ≡ (8 * i + j) / 8 = omega arith in p) (let q : j ≡ (8 * i + j) % 8 = omega arith in q)
 
 -- ---- copy_value: out after i steps of moving n bytes over old
 pub record Copied (f : ℕ → ℕ) (old : List ℕ) (n i : ℕ) (out : List ℕ) : Type 0 where
@@ -54,18 +54,18 @@ unfolding tabulate
 copied_none f old n = record { count = omega arith; filled = filled_at f old 0 (min n 0) old (sym (min-zero n)) refl }
 
 pub copied_next : (l : ℕ) (A B : ℕ → ℕ) (old : List ℕ) (n i : ℕ) (out : List ℕ) → n ≤ length old → 8 * i < n
-    → Copied (valueByte l A B) old n i out → (next : ℕ) (after : List ℕ) → next ≡ i + 1
-    → after ≡ setBytes out (8 * i) (min 8 (n - 8 * i)) (valueWord l A B i) → Copied (valueByte l A B) old n next after
+    → Copied (value_byte l A B) old n i out → (next : ℕ) (after : List ℕ) → next ≡ i + 1
+    → after ≡ set_bytes out (8 * i) (min 8 (n - 8 * i)) (value_word l A B i) → Copied (value_byte l A B) old n next after
 copied_next l A B old n i out room h c next after e q =
     record {
       count = omega arith;
       filled =
           q
-          ∙ filled_at (valueByte l A B) old (8 * i + min 8 (n - 8 * i)) (min n (8 * next)) _ (omega arith)
-          (fill-bytes (valueByte l A B) old (8 * i) (min 8 (n - 8 * i)) (valueWord l A B i) out (omega arith)
-          (λ j p. word-digits l A B i (valueWord l A B i) refl j (omega arith))
-          (filled_at (valueByte l A B) old (min n (8 * i)) (8 * i) out (omega arith) c.filled));
+          ∙ filled_at (value_byte l A B) old (8 * i + min 8 (n - 8 * i)) (min n (8 * next)) _ (omega arith)
+          (fill_bytes (value_byte l A B) old (8 * i) (min 8 (n - 8 * i)) (value_word l A B i) out (omega arith)
+          (λ j p. word_digits l A B i (value_word l A B i) refl j (omega arith))
+          (filled_at (value_byte l A B) old (min n (8 * i)) (8 * i) out (omega arith) c.filled));
     }
 
-pub copied_all : (f : ℕ → ℕ) (old : List ℕ) (n i : ℕ) (out : List ℕ) → n ≤ 8 * i → Copied f old n i out → (i ≡ wordsMoved n) × Filled f old n out
+pub copied_all : (f : ℕ → ℕ) (old : List ℕ) (n i : ℕ) (out : List ℕ) → n ≤ 8 * i → Copied f old n i out → (i ≡ words_moved n) × Filled f old n out
 copied_all f old n i out h c = (omega arith, filled_at f old (min n (8 * i)) n out (omega arith) c.filled)

@@ -2,16 +2,16 @@
 use mathlib.Core.Path.{◌≡◌, sym}
 use mathlib.Core.Bool.{Bool, true, false}
 use native.Mathlib.Omega.{arith}
-use Rattle.prelude.proofs.Choice.{pick_true, pick-false}
+use Rattle.prelude.proofs.Choice.{pick_true, pick_false}
 use Rattle.layout.specs.Record.{Layout}
-use Rattle.layout.specs.Layouts.{layoutNumber}
+use Rattle.layout.specs.Layouts.{layout_number}
 
-pub layout-numbered : (wide : Bool) → Layout (layoutNumber wide)
-layout-numbered true = record { low = omega arith; high = omega arith }
-layout-numbered false = record { low = omega arith; high = omega arith }
+pub layout_numbered : (wide : Bool) → Layout (layout_number wide)
+layout_numbered true = record { low = omega arith; high = omega arith }
+layout_numbered false = record { low = omega arith; high = omega arith }
 
-pub number-wide : (wide : Bool) → wide ≡ true → 2 ≡ layoutNumber wide
-number-wide wide e = sym (pick_true wide 2 1 e)
+pub number_wide : (wide : Bool) → wide ≡ true → 2 ≡ layout_number wide
+number_wide wide e = sym (pick_true wide 2 1 e)
 
-pub number-narrow : (wide : Bool) → wide ≡ false → 1 ≡ layoutNumber wide
-number-narrow wide e = sym (pick-false wide 2 1 e)
+pub number_narrow : (wide : Bool) → wide ≡ false → 1 ≡ layout_number wide
+number_narrow wide e = sym (pick_false wide 2 1 e)

@@ -8,59 +8,59 @@ use native.Mathlib.Omega.{arith}
 use lib.Dec.{ltb}
 use borrow.Author.Tests.{lt-ltb, le-ltb}
 use Rattle.words.specs.Word.{word}
-use Rattle.prelude.proofs.Choice.{pick_true, pick-false}
-use Rattle.layout.specs.Line.{lineA, lineB}
-use Rattle.layout.specs.Record.{Layout, valuePlace, slotWord, valueWord}
+use Rattle.prelude.proofs.Choice.{pick_true, pick_false}
+use Rattle.layout.specs.Line.{line_a, line_b}
+use Rattle.layout.specs.Record.{Layout, value_place, slot_word, value_word}
 
 -- in line A, and in line B
-pub place-A : (l i : ℕ) → l + 2 + i < 7 → l + 2 + i ≡ valuePlace l i
-unfolding valuePlace
-place-A l i h = sym (pick_true (ltb (l + 2 + i) 7) _ _ (lt-ltb (l + 2 + i) 7 h))
+pub place_A : (l i : ℕ) → l + 2 + i < 7 → l + 2 + i ≡ value_place l i
+unfolding value_place
+place_A l i h = sym (pick_true (ltb (l + 2 + i) 7) _ _ (lt-ltb (l + 2 + i) 7 h))
 
-pub place-B : (l i : ℕ) → 7 ≤ l + 2 + i → l + 4 + i ≡ valuePlace l i
-unfolding valuePlace
-place-B l i h = sym (pick-false (ltb (l + 2 + i) 7) _ _ (le-ltb (l + 2 + i) 7 h))
+pub place_B : (l i : ℕ) → 7 ≤ l + 2 + i → l + 4 + i ≡ value_place l i
+unfolding value_place
+place_B l i h = sym (pick_false (ltb (l + 2 + i) 7) _ _ (le-ltb (l + 2 + i) 7 h))
 
 -- a later word stands at a later place
-pub place-rises : (l i j : ℕ) → i < j → valuePlace l i < valuePlace l j
-place-rises l i j h =
+pub place_rises : (l i j : ℕ) → i < j → value_place l i < value_place l j
+place_rises l i j h =
     by_cases (dec_lt (l + 2 + i) 7)
     (λ p.
-    by_cases (dec_lt (l + 2 + j) 7) (λ q. omega (arith, place-A l i p, place-A l j q))
-    (λ q. omega (arith, place-A l i p, place-B l j (omega arith))))
-    (λ p. omega (arith, place-B l i (omega arith), place-B l j (omega arith)))
+    by_cases (dec_lt (l + 2 + j) 7) (λ q. omega (arith, place_A l i p, place_A l j q))
+    (λ q. omega (arith, place_A l i p, place_B l j (omega arith))))
+    (λ p. omega (arith, place_B l i (omega arith), place_B l j (omega arith)))
 
 -- no mark, key word, kind word or stamp stands there
 pub record InBody (l p : ℕ) : Type 0 where
-  pub after-kind : l + 2 ≤ p
-  pub no-stamp-A : p ≡ 7 → ⊥
-  pub no-mark-B : p ≡ 8 → ⊥
-  pub before-stamp-B : p < 15
+  pub after_kind : l + 2 ≤ p
+  pub no_stamp_A : p ≡ 7 → ⊥
+  pub no_mark_B : p ≡ 8 → ⊥
+  pub before_stamp_B : p < 15
 
-pub place-in-body : (l i : ℕ) → Layout l → l + i < 11 → InBody l (valuePlace l i)
-place-in-body l i lay h =
+pub place_in_body : (l i : ℕ) → Layout l → l + i < 11 → InBody l (value_place l i)
+place_in_body l i lay h =
     by_cases (dec_lt (l + 2 + i) 7)
     (λ p.
-    let e = place-A l i p in
+    let e = place_A l i p in
     record {
-      after-kind = omega arith;
-      no-stamp-A = λ (q : valuePlace l i ≡ 7). omega arith;
-      no-mark-B = λ (q : valuePlace l i ≡ 8). omega arith;
-      before-stamp-B = omega arith;
+      after_kind = omega arith;
+      no_stamp_A = λ (q : value_place l i ≡ 7). omega arith;
+      no_mark_B = λ (q : value_place l i ≡ 8). omega arith;
+      before_stamp_B = omega arith;
     })
     (λ p.
-    let e = place-B l i (omega arith) in
+    let e = place_B l i (omega arith) in
     record {
-      after-kind = omega arith;
-      no-stamp-A = λ (q : valuePlace l i ≡ 7). omega arith;
-      no-mark-B = λ (q : valuePlace l i ≡ 8). omega arith;
-      before-stamp-B = omega arith;
+      after_kind = omega arith;
+      no_stamp_A = λ (q : value_place l i ≡ 7). omega arith;
+      no_mark_B = λ (q : value_place l i ≡ 8). omega arith;
+      before_stamp_B = omega arith;
     })
 
 -- ---- the words of a slot in an image
 
-slot-word : (m : ℕ → ℕ) (s p : ℕ) → p < 16 → m (16 * s + p) ≡ slotWord (lineA m s) (lineB m s) p
-unfolding slotWord
+slot-word : (m : ℕ → ℕ) (s p : ℕ) → p < 16 → m (16 * s + p) ≡ slot_word (line_a m s) (line_b m s) p
+unfolding slot_word
 slot-word m s p h =
     by_cases (dec_lt p 8)
     (λ q.
@@ -68,11 +68,11 @@ slot-word m s p h =
     ap m e ∙ sym (pick_true (ltb p 8) _ _ (lt-ltb p 8 q)))
     (λ q.
     let e : 16 * s + p ≡ 8 * (2 * s + 1) + (p - 8) % 8 = omega arith in
-    ap m e ∙ sym (pick-false (ltb p 8) _ _ (le-ltb p 8 (omega arith))))
+    ap m e ∙ sym (pick_false (ltb p 8) _ _ (le-ltb p 8 (omega arith))))
 
 -- word i of the value, by its place
-pub value-word : (img : List ℕ) (l s i place r : ℕ) → place ≡ valuePlace l i → place < 16 → r ≡ word img (16 * s + place)
-    → r ≡ valueWord l (lineA (word img) s) (lineB (word img) s) i
-unfolding valueWord
+pub value-word : (img : List ℕ) (l s i place r : ℕ) → place ≡ value_place l i → place < 16 → r ≡ word img (16 * s + place)
+    → r ≡ value_word l (line_a (word img) s) (line_b (word img) s) i
+unfolding value_word
 value-word img l s i place r e h q =
-    q ∙ slot-word (word img) s place h ∙ ap (slotWord (lineA (word img) s) (lineB (word img) s)) e
+    q ∙ slot-word (word img) s place h ∙ ap (slot_word (line_a (word img) s) (line_b (word img) s)) e

@@ -8,13 +8,13 @@ use native.Mathlib.Decide.{dec_lt, ℕ_discrete}
 use native.Mathlib.Omega.{arith}
 use borrow.Author.Tests.{lt-ltb, le-ltb, eq-eqb}
 use Rattle.prelude.proofs.Tests.{tests}
-use Rattle.prelude.specs.Refusal.{refuseIf}
+use Rattle.prelude.specs.Refusal.{refuse_if}
 use Rattle.layout.specs.Size.{slots_of}
-use Rattle.prelude.proofs.Refusals.{refuseIf-true, refuseIf-false}
+use Rattle.prelude.proofs.Refusals.{refuse_if-true, refuse_if-false}
 
 -- slot_count: the length turned by seven bits
-pub turned-fits : (len : ℕ) → len < 2 ^ 64 → len / 128 + len % 128 * 2 ^ 57 < 2 ^ 64
-turned-fits len h = sum (len / 128) (len % 128 * 2 ^ 57) (high len h) (mul-le-mul_right (2 ^ 57) (low len))
+pub turned_fits : (len : ℕ) → len < 2 ^ 64 → len / 128 + len % 128 * 2 ^ 57 < 2 ^ 64
+turned_fits len h = sum (len / 128) (len % 128 * 2 ^ 57) (high len h) (mul-le-mul_right (2 ^ 57) (low len))
   where
     low : (len : ℕ) → len % 128 ≤ 127
     low len = omega arith
@@ -26,13 +26,13 @@ turned-fits len h = sum (len / 128) (len % 128 * 2 ^ 57) (high len h) (mul-le-mu
     sum q r p s = omega arith
 
 module _ (len turned : ℕ) (e : turned ≡ len / 128 + len % 128 * 2 ^ 57) where
-  pub turned-low : turned < 3 → 0 ≡ slots_of len
+  pub turned_low : turned < 3 → 0 ≡ slots_of len
   unfolding slots_of
-  turned-low h = sym (refuseIf-true _ _ _ (lt-ltb len 384 (omega arith)))
+  turned_low h = sym (refuse_if-true _ _ _ (lt-ltb len 384 (omega arith)))
 
-  pub turned-high : 65536 < turned → 0 ≡ slots_of len
-  unfolding slots_of refuseIf
-  turned-high h =
+  pub turned_high : 65536 < turned → 0 ≡ slots_of len
+  unfolding slots_of refuse_if
+  turned_high h =
       by_cases (dec_lt len 384) (λ p. search tests)
       (λ p.
       let p' : 384 ≤ len = omega arith in
@@ -46,8 +46,8 @@ module _ (len turned : ℕ) (e : turned ≡ len / 128 + len % 128 * 2 ^ 57) wher
   unfolding slots_of
   turned_right low high =
       sym
-      (refuseIf-false _ _ _ (le-ltb len 384 (omega arith)) ∙ refuseIf-false _ _ _ (le-ltb 8388608 len (omega arith))
-      ∙ refuseIf-false _ _ _ (ap not (eq-eqb (len % 128) 0 (omega arith))) ∙ omega arith)
+      (refuse_if-false _ _ _ (le-ltb len 384 (omega arith)) ∙ refuse_if-false _ _ _ (le-ltb 8388608 len (omega arith))
+      ∙ refuse_if-false _ _ _ (ap not (eq-eqb (len % 128) 0 (omega arith))) ∙ omega arith)
 
 -- what a length that has slots is
 pub record Long (len : ℕ) : Type 0 where
@@ -56,7 +56,7 @@ pub record Long (len : ℕ) : Type 0 where
   pub high : slots_of len ≤ 65535
 
 pub long : (len : ℕ) → (slots_of len ≡ 0 → ⊥) → Long len
-unfolding slots_of refuseIf
+unfolding slots_of refuse_if
 long len ne =
     by_cases (dec_lt len 384) (λ h. absurd (ne (search tests)))
     (λ h.
@@ -71,11 +71,11 @@ long len ne =
     let e : slots_of len ≡ len / 128 - 1 = search tests in
     record { size = omega arith; low = omega arith; high = omega arith })))
 
-pub slots-high : (len : ℕ) → slots_of len ≤ 65535
-slots-high len = by_cases (ℕ_discrete (slots_of len) 0) (λ e. omega arith) (λ ne. (long len ne).high)
+pub slots_high : (len : ℕ) → slots_of len ≤ 65535
+slots_high len = by_cases (ℕ_discrete (slots_of len) 0) (λ e. omega arith) (λ ne. (long len ne).high)
 
 pub sized : (n : ℕ) → 2 ≤ n → n ≤ 65535 → slots_of (128 * (n + 1)) ≡ n
 unfolding slots_of
 sized n low high =
-    refuseIf-false _ _ _ (le-ltb (128 * (n + 1)) 384 (omega arith)) ∙ refuseIf-false _ _ _ (le-ltb 8388608 (128 * (n + 1)) (omega arith))
-    ∙ refuseIf-false _ _ _ (ap not (eq-eqb (128 * (n + 1) % 128) 0 (omega arith))) ∙ omega arith
+    refuse_if-false _ _ _ (le-ltb (128 * (n + 1)) 384 (omega arith)) ∙ refuse_if-false _ _ _ (le-ltb 8388608 (128 * (n + 1)) (omega arith))
+    ∙ refuse_if-false _ _ _ (ap not (eq-eqb (128 * (n + 1) % 128) 0 (omega arith))) ∙ omega arith

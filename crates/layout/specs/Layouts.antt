@@ -4,5 +4,5 @@ use Rattle.std.specs.Prelude.{Bool, cond, ℕ}
 
 -- the layout's number, which the rules have as their parameter and header word 1 names: where keys are wide, of 16
 -- bytes, it is 2
-abbrev pub layoutNumber : (wide : Bool) → ℕ
-layoutNumber wide = cond wide 2 1
+abbrev pub layout_number : (wide : Bool) → ℕ
+layout_number wide = cond wide 2 1

@@ -3,5 +3,5 @@
 use Rattle.std.specs.Prelude.{ℕ, ◌+◌, ◌/◌}
 
 -- for a value of n bytes: "the length divided by 8, rounded up"
-abbrev pub wordsMoved : (n : ℕ) → ℕ
-wordsMoved n = (n + 7) / 8
+abbrev pub words_moved : (n : ℕ) → ℕ
+words_moved n = (n + 7) / 8

@@ -3,7 +3,7 @@ ghost use Rattle.std.specs.Prelude.{◌≡◌, not, ◌+◌, ◌≤◌, eqb, len
 ghost use Rattle.words.specs.Word.{word};
 ghost use Rattle.prelude.specs.Range.{any_of};
 ghost use Rattle.layout.specs.Size.{slots_of};
-ghost use Rattle.layout.specs.Header.{headerWord, headerFault, imageFault, indexFault, lentFault};
+ghost use Rattle.layout.specs.Header.{header_word, header_fault, image_fault, index_fault, lent_fault};
 
 use words_code::read_word;
 
@@ -39,7 +39,7 @@ fn rest_differs(image: &[u8]) -> bool
 // Is a word of the header other than laid down?
 fn header_differs(image: &[u8], l: usize, n: u64) -> bool
     requires { 64 ≤ length image.now }
-    ensures { result ≡ any_of (λ i. not (eqb (word image.now i) (headerWord l n i))) 0 8 }
+    ensures { result ≡ any_of (λ i. not (eqb (word image.now i) (header_word l n i))) 0 8 }
 {
     if read_word(image, 0) != n {
         return true;
@@ -53,7 +53,7 @@ fn header_differs(image: &[u8], l: usize, n: u64) -> bool
 // 2 or 3 by the header, else 0.
 fn header_fault(image: &[u8], l: usize, n: u64) -> u32
     requires { (64 ≤ length image.now) × (1 ≤ n) }
-    ensures { result ≡ headerFault l n (word image.now) }
+    ensures { result ≡ header_fault l n (word image.now) }
 {
     if header_differs(image, l, n) {
         if read_word(image, 0) == 0 {
@@ -66,7 +66,7 @@ fn header_fault(image: &[u8], l: usize, n: u64) -> u32
 
 // 1, 2 or 3 by the image alone, else 0.
 pub fn image_fault(image: &[u8], l: usize) -> u32
-    ensures result { result ≡ imageFault l image.now }
+    ensures result { result ≡ image_fault l image.now }
 {
     let n = slot_count(image.len());
     if n == 0 {
@@ -78,7 +78,7 @@ pub fn image_fault(image: &[u8], l: usize) -> u32
 // 4 by the sizes of the index, else 0.
 pub fn index_fault(n: usize, heads: usize, next: usize) -> u32
     requires { n ≤ 65535 }
-    ensures result { result ≡ indexFault n heads next }
+    ensures result { result ≡ index_fault n heads next }
 {
     if heads < 1 {
         return 4;
@@ -94,7 +94,7 @@ pub fn index_fault(n: usize, heads: usize, next: usize) -> u32
 
 // 1, 2, 3 or 4 by what is lent, else 0.
 pub fn lent_fault(image: &[u8], l: usize, heads: usize, next: usize) -> u32
-    ensures result { result ≡ lentFault l image.now heads next }
+    ensures result { result ≡ lent_fault l image.now heads next }
 {
     let fault = image_fault(image, l);
     if fault != 0 {

@@ -1,17 +1,17 @@
 // The value of a record: where its words stand in a slot, and the copy of it, a word a step. `l` is the layout.
 ghost use Rattle.std.specs.Prelude.{◌≡◌, ◌++◌, ◌+◌, ◌-◌, ◌*◌, ◌<◌, ◌≤◌, min, length, drop};
-ghost use Rattle.words.specs.Word.{word, setBytes};
-ghost use Rattle.layout.specs.Line.{lineA, lineB};
-ghost use Rattle.layout.specs.Record.{Layout, limit, valuePlace, valueWord, valueFront};
+ghost use Rattle.words.specs.Word.{word, set_bytes};
+ghost use Rattle.layout.specs.Line.{line_a, line_b};
+ghost use Rattle.layout.specs.Record.{Layout, limit, value_place, value_word, value_front};
 ghost use Rattle.layout.specs.inner.Inside.{SlotInside};
-ghost use Rattle.layout.specs.Moved.{wordsMoved};
+ghost use Rattle.layout.specs.Moved.{words_moved};
 
 use words_code::{read_word, write_part};
 
 // Where word i of a value stands among a slot's 16 words.
 pub fn value_place(l: usize, i: usize) -> usize
     requires { Layout l × (l + i < 11) }
-    ensures result { (result ≡ valuePlace l i) × (result < 16) }
+    ensures result { (result ≡ value_place l i) × (result < 16) }
 {
     if l + 2 + i < 7 {
         return l + 2 + i;
@@ -22,7 +22,7 @@ pub fn value_place(l: usize, i: usize) -> usize
 // Word i of the value in slot s.
 pub fn value_word(image: &[u8], l: usize, s: usize, i: usize) -> u64
     requires { SlotInside image.now l s × (l + i < 11) }
-    ensures result { result ≡ valueWord l (lineA (word image.now) s) (lineB (word image.now) s) i }
+    ensures result { result ≡ value_word l (line_a (word image.now) s) (line_b (word image.now) s) i }
 {
     read_word(image, 16 * s + value_place(l, i))
 }
@@ -32,8 +32,8 @@ pub fn value_word(image: &[u8], l: usize, s: usize, i: usize) -> u64
 fn copy_step(image: &[u8], l: usize, s: usize, out: &mut [u8], n: usize, i: usize) -> usize
     requires { SlotInside image.now l s × (8 * i < n) × (n ≤ limit l) × (n ≤ length out.old) }
     ensures { (result ≡ i + 1) ×
-        (out.new ≡ setBytes out.old (8 * i) (min 8 (n - 8 * i))
-        (valueWord l (lineA (word image.now) s) (lineB (word image.now) s) i)) }
+        (out.new ≡ set_bytes out.old (8 * i) (min 8 (n - 8 * i))
+        (value_word l (line_a (word image.now) s) (line_b (word image.now) s) i)) }
 {
     write_part(out, i, n, value_word(image, l, s, i));
     i + 1
@@ -42,8 +42,8 @@ fn copy_step(image: &[u8], l: usize, s: usize, out: &mut [u8], n: usize, i: usiz
 // The first n bytes of the value in slot s fill the front of out, a word a step. The count of steps.
 pub fn copy_value(image: &[u8], l: usize, s: usize, out: &mut [u8], n: usize) -> usize
     requires { SlotInside image.now l s × (n ≤ limit l) × (n ≤ length out.old) }
-    ensures result { (result ≡ wordsMoved n) ×
-        (out.new ≡ valueFront l (lineA (word image.now) s) (lineB (word image.now) s) n ++ drop n out.old) }
+    ensures result { (result ≡ words_moved n) ×
+        (out.new ≡ value_front l (line_a (word image.now) s) (line_b (word image.now) s) n ++ drop n out.old) }
 {
     let mut i = 0;
     while 8 * i < n {

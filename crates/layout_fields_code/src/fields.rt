@@ -1,10 +1,10 @@
 // The fields of the record in a slot, and its fault: 6, 22, 23 or 24. `l` is the layout.
 ghost use Rattle.std.specs.Prelude.{◌≡◌, ◌+◌, ◌*◌, ◌≤◌, eqb, length};
 ghost use Rattle.words.specs.Word.{word};
-ghost use Rattle.layout.specs.Line.{lineA, lineB};
-ghost use Rattle.layout.specs.Record.{key_of, keyWith, kind_of, length_of, sizeField, limit};
-ghost use Rattle.layout.specs.Layouts.{layoutNumber};
-ghost use Rattle.layout.specs.Fault.{bitsFault, kindFault, kindLimit, wordFault, tailFault, faultOf};
+ghost use Rattle.layout.specs.Line.{line_a, line_b};
+ghost use Rattle.layout.specs.Record.{key_of, key_with, kind_of, length_of, size_field, limit};
+ghost use Rattle.layout.specs.Layouts.{layout_number};
+ghost use Rattle.layout.specs.Fault.{bits_fault, kind_fault, kind_limit, word_fault, tail_fault, fault_of};
 ghost use Rattle.layout.specs.inner.Inside.{SlotInside};
 ghost use Rattle.layout.specs.inner.Key.{high_word};
 
@@ -14,7 +14,7 @@ use words_code::read_word;
 // The low word of the key in slot s.
 pub fn slot_low(image: &[u8], s: usize) -> u64
     requires { 128 * (s + 1) ≤ length image.now }
-    ensures result { result ≡ lineA (word image.now) s 1 }
+    ensures result { result ≡ line_a (word image.now) s 1 }
 {
     read_word(image, 16 * s + 1)
 }
@@ -22,7 +22,7 @@ pub fn slot_low(image: &[u8], s: usize) -> u64
 // The high word of the key in slot s, 0 in layout 1.
 pub fn slot_high(image: &[u8], l: usize, s: usize) -> u64
     requires { SlotInside image.now l s }
-    ensures result { result ≡ high_word l (lineA (word image.now) s) }
+    ensures result { result ≡ high_word l (line_a (word image.now) s) }
 {
     if l == 1 {
         return 0;
@@ -33,7 +33,7 @@ pub fn slot_high(image: &[u8], l: usize, s: usize) -> u64
 // Is the key with these words that of slot s?
 pub fn has_key(image: &[u8], l: usize, s: usize, low: u64, high: u64) -> bool
     requires { SlotInside image.now l s }
-    ensures result { result ≡ eqb (key_of l (lineA (word image.now) s)) (keyWith low high) }
+    ensures result { result ≡ eqb (key_of l (line_a (word image.now) s)) (key_with low high) }
 {
     if slot_low(image, s) != low {
         return false;
@@ -44,7 +44,7 @@ pub fn has_key(image: &[u8], l: usize, s: usize, low: u64, high: u64) -> bool
 // The kind word of slot s.
 fn slot_kind_word(image: &[u8], l: usize, s: usize) -> u64
     requires { SlotInside image.now l s }
-    ensures { result ≡ lineA (word image.now) s (l + 1) }
+    ensures { result ≡ line_a (word image.now) s (l + 1) }
 {
     read_word(image, 16 * s + l + 1)
 }
@@ -65,7 +65,7 @@ fn length_of(w: u64) -> usize
 
 // The number of the layout: 2 where keys are wide, of 16 bytes, else 1.
 pub fn layout_number(wide: bool) -> usize
-    ensures result { result ≡ layoutNumber wide }
+    ensures result { result ≡ layout_number wide }
 {
     if wide {
         return 2;
@@ -84,7 +84,7 @@ pub fn value_limit(l: usize) -> usize
 // The kind in slot s.
 pub fn slot_kind(image: &[u8], l: usize, s: usize) -> u64
     requires { SlotInside image.now l s }
-    ensures result { result ≡ kind_of (lineA (word image.now) s (l + 1)) }
+    ensures result { result ≡ kind_of (line_a (word image.now) s (l + 1)) }
 {
     kind_of(slot_kind_word(image, l, s))
 }
@@ -92,7 +92,7 @@ pub fn slot_kind(image: &[u8], l: usize, s: usize) -> u64
 // The length of the value in slot s.
 pub fn slot_length(image: &[u8], l: usize, s: usize) -> usize
     requires { SlotInside image.now l s }
-    ensures result { result ≡ length_of (lineA (word image.now) s (l + 1)) }
+    ensures result { result ≡ length_of (line_a (word image.now) s (l + 1)) }
 {
     length_of(slot_kind_word(image, l, s))
 }
@@ -100,14 +100,14 @@ pub fn slot_length(image: &[u8], l: usize, s: usize) -> usize
 // The number in slot s: of how many records share its version.
 pub fn slot_number(image: &[u8], l: usize, s: usize) -> u64
     requires { SlotInside image.now l s }
-    ensures result { result ≡ sizeField (lineA (word image.now) s (l + 1)) }
+    ensures result { result ≡ size_field (line_a (word image.now) s (l + 1)) }
 {
     slot_kind_word(image, l, s) / 65536 % 256
 }
 
 // Is a bit above bit 23 set, or is the number 1 or over 8?
 fn bits_fault(w: u64) -> bool
-    ensures { result ≡ bitsFault w }
+    ensures { result ≡ bits_fault w }
 {
     if 16777216 <= w {
         return true;
@@ -121,7 +121,7 @@ fn bits_fault(w: u64) -> bool
 
 // Is it another kind than put and remove?
 fn kind_fault(kind: u64) -> bool
-    ensures { result ≡ kindFault kind }
+    ensures { result ≡ kind_fault kind }
 {
     if kind == 1 {
         return false;
@@ -135,7 +135,7 @@ fn kind_fault(kind: u64) -> bool
 // The greatest length of a record of this kind: a remove has none.
 fn kind_limit(l: usize, kind: u64) -> usize
     requires { l ≤ 2 }
-    ensures { result ≡ kindLimit l kind }
+    ensures { result ≡ kind_limit l kind }
 {
     if kind != 2 {
         return value_limit(l);
@@ -146,7 +146,7 @@ fn kind_limit(l: usize, kind: u64) -> usize
 // The fault of the kind word by itself: 6, 22 or 23, else 0.
 fn word_fault(l: usize, w: u64) -> u32
     requires { l ≤ 2 }
-    ensures { result ≡ wordFault l w }
+    ensures { result ≡ word_fault l w }
 {
     if bits_fault(w) {
         return 6;
@@ -164,7 +164,7 @@ fn word_fault(l: usize, w: u64) -> u32
 // Is a byte of the value from position size on not zero? Word by word, the first one from position size % 8 on.
 fn tail_fault(image: &[u8], l: usize, s: usize, size: usize) -> bool
     requires { SlotInside image.now l s × (size ≤ limit l) }
-    ensures { result ≡ tailFault l (lineA (word image.now) s) (lineB (word image.now) s) size }
+    ensures { result ≡ tail_fault l (line_a (word image.now) s) (line_b (word image.now) s) size }
 {
     let words = 11 - l;
     let mut i = size / 8;
@@ -183,7 +183,7 @@ fn tail_fault(image: &[u8], l: usize, s: usize, size: usize) -> bool
 // The fault of the record in slot s: 6, 22, 23 or 24, else 0. Asked of valid slots.
 pub fn record_fault(image: &[u8], l: usize, s: usize) -> u32
     requires { SlotInside image.now l s }
-    ensures result { result ≡ faultOf l (lineA (word image.now) s) (lineB (word image.now) s) }
+    ensures result { result ≡ fault_of l (line_a (word image.now) s) (line_b (word image.now) s) }
 {
     let w = slot_kind_word(image, l, s);
     let fault = word_fault(l, w);

@@ -1,6 +1,6 @@
 // Rules on a line's mark and stamp, as functions of numbers.
 ghost use Rattle.std.specs.Prelude.{◌≡◌, ◌<◌, ◌^◌};
-ghost use Rattle.layout.specs.Line.{versionOf, whole, first_word, lastWord, wholeVersion, versionFault};
+ghost use Rattle.layout.specs.Line.{version_of, whole, first_word, last_word_of, whole_version, version_fault};
 
 // Is a line with this mark and stamp whole?
 pub fn is_whole(mark: u64, stamp: u64) -> bool
@@ -11,7 +11,7 @@ pub fn is_whole(mark: u64, stamp: u64) -> bool
 
 // The version in a stamp.
 pub fn version_of(stamp: u64) -> u64
-    ensures result { result ≡ versionOf stamp }
+    ensures result { result ≡ version_of stamp }
 {
     stamp / 2
 }
@@ -26,14 +26,14 @@ pub fn first_word(stamp: u64) -> u64
 // The last word to store over a line that carries this stamp.
 pub fn last_word(stamp: u64, version: u64) -> u64
     requires { version < 2 ^ 63 }
-    ensures result { result ≡ lastWord stamp version }
+    ensures result { result ≡ last_word_of stamp version }
 {
     version * 2 + (1 - stamp % 2)
 }
 
 // The version on a whole line, 0 on an open one.
 pub fn line_top(mark: u64, stamp: u64) -> u64
-    ensures result { result ≡ wholeVersion mark stamp }
+    ensures result { result ≡ whole_version mark stamp }
 {
     if is_whole(mark, stamp) {
         return version_of(stamp);
@@ -43,7 +43,7 @@ pub fn line_top(mark: u64, stamp: u64) -> u64
 
 // 9 for a next version that cannot be written, else 0.
 pub fn version_fault(version: u64) -> u32
-    ensures result { result ≡ versionFault version }
+    ensures result { result ≡ version_fault version }
 {
     if 9223372036854775808 <= version {
         return 9;

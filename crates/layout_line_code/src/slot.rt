@@ -1,8 +1,8 @@
 // The verdict on a slot.
 ghost use Rattle.std.specs.Prelude.{◌≡◌, ◌+◌, ◌*◌, ◌≤◌, length};
 ghost use Rattle.words.specs.Word.{word};
-ghost use Rattle.layout.specs.Slot.{paired, verdictOf, slotVerdict};
-ghost use Rattle.layout.specs.Fault.{markFault};
+ghost use Rattle.layout.specs.Slot.{paired, verdict_of, slot_verdict};
+ghost use Rattle.layout.specs.Fault.{mark_fault};
 
 use crate::line::{is_whole, line_top, version_of};
 use layout::Verdict;
@@ -23,7 +23,7 @@ fn is_pair(mark_a: u64, stamp_a: u64, mark_b: u64, stamp_b: u64) -> bool
 
 // The verdict that marks and stamps give.
 pub fn verdict_of(mark_a: u64, stamp_a: u64, mark_b: u64, stamp_b: u64) -> Verdict
-    ensures result { result ≡ verdictOf mark_a stamp_a mark_b stamp_b }
+    ensures result { result ≡ verdict_of mark_a stamp_a mark_b stamp_b }
 {
     if is_pair(mark_a, stamp_a, mark_b, stamp_b) {
         let version = version_of(stamp_a);
@@ -38,7 +38,7 @@ pub fn verdict_of(mark_a: u64, stamp_a: u64, mark_b: u64, stamp_b: u64) -> Verdi
 // The verdict on slot s.
 pub fn slot_verdict(image: &[u8], s: usize) -> Verdict
     requires { 128 * (s + 1) ≤ length image.now }
-    ensures result { result ≡ slotVerdict (word image.now) s }
+    ensures result { result ≡ slot_verdict (word image.now) s }
 {
     let mark_a = read_word(image, 16 * s);
     let stamp_a = read_word(image, 16 * s + 7);
@@ -50,7 +50,7 @@ pub fn slot_verdict(image: &[u8], s: usize) -> Verdict
 // Is a mark of slot s neither 0 nor 1?
 pub fn mark_fault(image: &[u8], s: usize) -> bool
     requires { 128 * (s + 1) ≤ length image.now }
-    ensures result { result ≡ markFault (word image.now) s }
+    ensures result { result ≡ mark_fault (word image.now) s }
 {
     if 1 < read_word(image, 16 * s) {
         return true;

@@ -10,33 +10,33 @@ use lib.Dec.{eqb, leb}
 use lib.ListN.{length, drop, length-take, length-drop}
 use borrow.Author.Tests.{lt-leb}
 use Rattle.words.specs.Word.{AreBytes, word}
-use Rattle.words.proofs.Laws.{word_same, word-range, word-take, word-drop}
-use Rattle.prelude.specs.Refusal.{refuseIf}
-use Rattle.prelude.proofs.Refusals.{refuseIf-false, orElse-later, taken-leaves}
-use Rattle.layout.specs.Line.{line, whole, versionOf, first_word, lastWord, wholeVersion, versionFault}
-use Rattle.layout.specs.Slot.{paired, verdictOf, lineVerdict, slotVerdict}
+use Rattle.words.proofs.Laws.{word_same, word_range, word-take, word-drop}
+use Rattle.prelude.specs.Refusal.{refuse_if}
+use Rattle.prelude.proofs.Refusals.{refuse_if-false, or_else_later, taken_leaves}
+use Rattle.layout.specs.Line.{line, whole, version_of, first_word, last_word_of, whole_version, version_fault}
+use Rattle.layout.specs.Slot.{paired, verdict_of, line_verdict, slot_verdict}
 use Rattle.layout.specs.declared.Verdict.TheVariants.{Valid, Empty, Broken}
-use Rattle.stores.specs.Store.{Store, onLine}
+use Rattle.stores.specs.Store.{Store, on_line}
 use Rattle.stores.specs.Play.{values}
-use Rattle.stores.specs.Written.{marked, body_a, bodyB, run, lineStores, recordStores}
+use Rattle.stores.specs.Written.{marked, body_a, body_b, run, line_stores, record_stores}
 use Rattle.stores.proofs.defs.Cut.{Carries}
-use Rattle.stores.proofs.Table.{record-carries}
-use Rattle.linequery.specs.Query.{sliceFault, nextFault, queried, wholeQuery, versionQuery, firstQuery, lastQuery}
-use Rattle.linequery.specs.Agreement.{lineBytes, answer_of, pairedBy, verdictBy, Framed, LineAgreement, SlotAgreement, QueriesAgree}
+use Rattle.stores.proofs.Table.{record_carries}
+use Rattle.linequery.specs.Query.{slice_fault, next_fault, queried, whole_query, version_query, first_query, last_query}
+use Rattle.linequery.specs.Agreement.{line_bytes, answer_of, paired_by, verdict_by, Framed, LineAgreement, SlotAgreement, QueriesAgree}
 
 -- ---- the answers on line n
 
 module _ (image lent : List ℕ) (n : ℕ) (inside : 64 * (n + 1) ≤ length image) (room : length lent ≡ 8) where
-  line-length : length (lineBytes image n) ≡ 64
-  unfolding lineBytes
-  line-length = length-take 64 (drop (64 * n) image) ∙ omega (arith, length-drop (64 * n) image)
+  line_length : length (line_bytes image n) ≡ 64
+  unfolding line_bytes
+  line_length = length-take 64 (drop (64 * n) image) ∙ omega (arith, length-drop (64 * n) image)
 
-  line-sized : sliceFault (length (lineBytes image n)) (length lent) ≡ 0
-  unfolding sliceFault refuseIf
-  line-sized = rw (line-length, room) refl
+  line_sized : slice_fault (length (line_bytes image n)) (length lent) ≡ 0
+  unfolding slice_fault refuse_if
+  line_sized = rw (line_length, room) refl
 
-  line_word : (i : ℕ) → i < 8 → word (lineBytes image n) i ≡ line (word image) n i
-  unfolding lineBytes
+  line_word : (i : ℕ) → i < 8 → word (line_bytes image n) i ≡ line (word image) n i
+  unfolding line_bytes
   line_word i h =
       let start : 64 * n ≡ 8 * (8 * n) = omega arith in
       word-take (drop (64 * n) image) 64 i (omega arith)
@@ -44,142 +44,142 @@ module _ (image lent : List ℕ) (n : ℕ) (inside : 64 * (n + 1) ≤ length ima
       ∙ word-drop image (8 * n) i
       ∙ ap (word image) (omega arith)
 
-  word-put : (fault value : ℕ) → fault ≡ 0 → value < 2 ^ 64 → word (queried fault value lent).answer 0 ≡ value
+  word_put : (fault value : ℕ) → fault ≡ 0 → value < 2 ^ 64 → word (queried fault value lent).answer 0 ≡ value
   unfolding queried
-  word-put fault value z b =
-      ap (λ (x : List ℕ). word x 0) (taken-leaves _ _ fault z) ∙ word_same lent 0 value (omega arith) b
+  word_put fault value z b =
+      ap (λ (x : List ℕ). word x 0) (taken_leaves _ _ fault z) ∙ word_same lent 0 value (omega arith) b
 
-  next-fine : (version : ℕ) → version < 2 ^ 63 → nextFault (length (lineBytes image n)) (length lent) version ≡ 0
-  unfolding nextFault versionFault
-  next-fine version h = orElse-later _ _ line-sized ∙ refuseIf-false (leb (2 ^ 63) version) 9 0 (lt-leb (2 ^ 63) version h)
+  next_fine : (version : ℕ) → version < 2 ^ 63 → next_fault (length (line_bytes image n)) (length lent) version ≡ 0
+  unfolding next_fault version_fault
+  next_fine version h = or_else_later _ _ line_sized ∙ refuse_if-false (leb (2 ^ 63) version) 9 0 (lt-leb (2 ^ 63) version h)
 
-  whole-answer : answer_of wholeQuery image lent n ≡ cond (whole (line (word image) n 0) (line (word image) n 7)) 1 0
-  unfolding wholeQuery
-  whole-answer =
-      word-put _ _ line-sized (flag (whole (word (lineBytes image n) 0) (word (lineBytes image n) 7)))
+  whole_answer : answer_of whole_query image lent n ≡ cond (whole (line (word image) n 0) (line (word image) n 7)) 1 0
+  unfolding whole_query
+  whole_answer =
+      word_put _ _ line_sized (flag (whole (word (line_bytes image n) 0) (word (line_bytes image n) 7)))
       ∙ ap₂ (λ (x y : ℕ). cond (whole x y) 1 0) (line_word 0 (omega arith)) (line_word 7 (omega arith))
     where
       flag : (b : Bool) → cond b 1 0 < 2 ^ 64
       flag true = omega arith
       flag false = omega arith
 
-  version-answer : AreBytes image → answer_of versionQuery image lent n ≡ versionOf (line (word image) n 7)
-  unfolding versionQuery
-  version-answer bytes =
-      word-put _ _ line-sized (omega (arith, line_word 7 (omega arith), word-range image (8 * n + 7 % 8) bytes))
-      ∙ ap versionOf (line_word 7 (omega arith))
+  version_answer : AreBytes image → answer_of version_query image lent n ≡ version_of (line (word image) n 7)
+  unfolding version_query
+  version_answer bytes =
+      word_put _ _ line_sized (omega (arith, line_word 7 (omega arith), word_range image (8 * n + 7 % 8) bytes))
+      ∙ ap version_of (line_word 7 (omega arith))
 
   module _ (version : ℕ) (small : version < 2 ^ 63) where
-    first-answer : answer_of (firstQuery version) image lent n ≡ first_word (line (word image) n 7)
-    unfolding firstQuery
-    first-answer = word-put _ _ (next-fine version small) (omega arith) ∙ ap first_word (line_word 7 (omega arith))
+    first_answer : answer_of (first_query version) image lent n ≡ first_word (line (word image) n 7)
+    unfolding first_query
+    first_answer = word_put _ _ (next_fine version small) (omega arith) ∙ ap first_word (line_word 7 (omega arith))
 
-    last-answer : answer_of (lastQuery version) image lent n ≡ lastWord (line (word image) n 7) version
-    unfolding lastQuery
-    last-answer =
-        word-put _ _ (next-fine version small) (omega arith) ∙ ap (λ (x : ℕ). lastWord x version) (line_word 7 (omega arith))
+    last_answer : answer_of (last_query version) image lent n ≡ last_word_of (line (word image) n 7) version
+    unfolding last_query
+    last_answer =
+        word_put _ _ (next_fine version small) (omega arith) ∙ ap (λ (x : ℕ). last_word_of x version) (line_word 7 (omega arith))
 
 -- ONE LINE
-line-agreement : (image lent : List ℕ) (n : ℕ) → AreBytes image → 64 * (n + 1) ≤ length image → length lent ≡ 8 → LineAgreement image lent n
-unfolding wholeQuery versionQuery firstQuery lastQuery queried
-line-agreement image lent n bytes inside room =
+line_agreement : (image lent : List ℕ) (n : ℕ) → AreBytes image → 64 * (n + 1) ≤ length image → length lent ≡ 8 → LineAgreement image lent n
+unfolding whole_query version_query first_query last_query queried
+line_agreement image lent n bytes inside room =
     record {
-      sized = line-sized image lent n inside room;
-      is_whole = whole-answer image lent n inside room;
-      has-version = version-answer image lent n inside room bytes;
-      first-word = first-answer image lent n inside room;
-      last_word = last-answer image lent n inside room;
-      whole-returns = line-sized image lent n inside room;
-      version-returns = line-sized image lent n inside room;
-      first-returns = next-fine image lent n inside room;
-      last-returns = next-fine image lent n inside room;
+      sized = line_sized image lent n inside room;
+      is_whole = whole_answer image lent n inside room;
+      has-version = version_answer image lent n inside room bytes;
+      first-word = first_answer image lent n inside room;
+      last_word = last_answer image lent n inside room;
+      whole_returns = line_sized image lent n inside room;
+      version_returns = line_sized image lent n inside room;
+      first_returns = next_fine image lent n inside room;
+      last_returns = next_fine image lent n inside room;
     }
 
 -- ---- the verdict, by whether each line is whole
 
-by-answers : (a b : Bool) (va vb : ℕ) → verdictBy (cond a 1 0) va (cond b 1 0) vb ≡
+by_answers : (a b : Bool) (va vb : ℕ) → verdict_by (cond a 1 0) va (cond b 1 0) vb ≡
     cond (cond a (cond b (eqb va vb) false) false) (cond (eqb va 0) Empty (Valid va)) (Broken (max (cond a va 0) (cond b vb 0)))
-unfolding verdictBy pairedBy
-by-answers true true va vb = refl
-by-answers true false va vb = refl
-by-answers false true va vb = refl
-by-answers false false va vb = refl
+unfolding verdict_by paired_by
+by_answers true true va vb = refl
+by_answers true false va vb = refl
+by_answers false true va vb = refl
+by_answers false false va vb = refl
 
-verdict-answered : (ma sa mb sb : ℕ)
-    → verdictBy (cond (whole ma sa) 1 0) (versionOf sa) (cond (whole mb sb) 1 0) (versionOf sb) ≡ verdictOf ma sa mb sb
-unfolding verdictOf paired wholeVersion
-verdict-answered ma sa mb sb = by-answers (whole ma sa) (whole mb sb) (versionOf sa) (versionOf sb)
+verdict_answered : (ma sa mb sb : ℕ)
+    → verdict_by (cond (whole ma sa) 1 0) (version_of sa) (cond (whole mb sb) 1 0) (version_of sb) ≡ verdict_of ma sa mb sb
+unfolding verdict_of paired whole_version
+verdict_answered ma sa mb sb = by_answers (whole ma sa) (whole mb sb) (version_of sa) (version_of sb)
 
 -- ---- the stores of a line that is written over one with this stamp
 
-marked-framed : (n stamp version : ℕ) (body : ℕ → ℕ)
-    → Framed (values (lineStores n (marked stamp version body))) (first_word stamp) (lastWord stamp version)
-unfolding values lineStores run marked
-marked-framed n stamp version body = record { eight = refl; begins = refl; ends = refl }
+marked_framed : (n stamp version : ℕ) (body : ℕ → ℕ)
+    → Framed (values (line_stores n (marked stamp version body))) (first_word stamp) (last_word_of stamp version)
+unfolding values line_stores run marked
+marked_framed n stamp version body = record { eight = refl; begins = refl; ends = refl }
 
 -- line n, whose stores among ss are those of such a line
-framed-by : (m : ℕ → ℕ) (ss : List Store) (n version : ℕ) (body : ℕ → ℕ) (first last : ℕ)
-    → onLine n ss ≡ lineStores n (marked (line m n 7) version body) → first ≡ first_word (line m n 7) → last ≡ lastWord (line m n 7) version
-    → Framed (values (onLine n ss)) first last
-framed-by m ss n version body first last own p q = rw (own, p, q) (marked-framed n (line m n 7) version body)
+framed_by : (m : ℕ → ℕ) (ss : List Store) (n version : ℕ) (body : ℕ → ℕ) (first last : ℕ)
+    → on_line n ss ≡ line_stores n (marked (line m n 7) version body) → first ≡ first_word (line m n 7) → last ≡ last_word_of (line m n 7) version
+    → Framed (values (on_line n ss)) first last
+framed_by m ss n version body first last own p q = rw (own, p, q) (marked_framed n (line m n 7) version body)
 
 -- the stores of a record, on either line of its slot
-record-framed : (l : ℕ) (m : ℕ → ℕ) (s key kind number : ℕ) (value : List ℕ) (version n first last : ℕ) → n / 2 ≡ s
-    → first ≡ first_word (line m n 7) → last ≡ lastWord (line m n 7) version
-    → Framed (values (onLine n (recordStores l m s key kind number value version))) first last
-record-framed l m s key kind number value version n first last h p q =
+record_framed : (l : ℕ) (m : ℕ → ℕ) (s key kind number : ℕ) (value : List ℕ) (version n first last : ℕ) → n / 2 ≡ s
+    → first ≡ first_word (line m n 7) → last ≡ last_word_of (line m n 7) version
+    → Framed (values (on_line n (record_stores l m s key kind number value version))) first last
+record_framed l m s key kind number value version n first last h p q =
     by_cases (ℕ_discrete n (2 * s))
-    (λ e. framed-by m _ n version (body_a l key kind number value) first last (own_at (2 * s) e (body_a l key kind number value) has.line_A) p q)
-    (λ ne. framed-by m _ n version (bodyB l value) first last (own_at (2 * s + 1) (omega (arith, ne)) (bodyB l value) has.line-B) p q)
+    (λ e. framed_by m _ n version (body_a l key kind number value) first last (own_at (2 * s) e (body_a l key kind number value) has.line_A) p q)
+    (λ ne. framed_by m _ n version (body_b l value) first last (own_at (2 * s + 1) (omega (arith, ne)) (body_b l value) has.line_B) p q)
   where
-    has : Carries l m (recordStores l m s key kind number value version) s key kind number value version
-    has = record-carries l m s key kind number value version
+    has : Carries l m (record_stores l m s key kind number value version) s key kind number value version
+    has = record_carries l m s key kind number value version
 
     own_at : (k : ℕ) → n ≡ k → (body : ℕ → ℕ)
-        → onLine k (recordStores l m s key kind number value version) ≡ lineStores k (marked (line m k 7) version body)
-        → onLine n (recordStores l m s key kind number value version) ≡ lineStores n (marked (line m n 7) version body)
+        → on_line k (record_stores l m s key kind number value version) ≡ line_stores k (marked (line m k 7) version body)
+        → on_line n (record_stores l m s key kind number value version) ≡ line_stores n (marked (line m n 7) version body)
     own_at k e body own =
-        ap (λ (x : ℕ). onLine x (recordStores l m s key kind number value version)) e ∙ own
-        ∙ ap (λ (x : ℕ). lineStores x (marked (line m x 7) version body)) (sym e)
+        ap (λ (x : ℕ). on_line x (record_stores l m s key kind number value version)) e ∙ own
+        ∙ ap (λ (x : ℕ). line_stores x (marked (line m x 7) version body)) (sym e)
 
 -- ---- both lines of slot s
 
 module _ (image lent : List ℕ) (s : ℕ) (bytes : AreBytes image) (inside : 128 * (s + 1) ≤ length image) (room : length lent ≡ 8) where
-  in-A : 64 * (2 * s + 1) ≤ length image
-  in-A = omega arith
+  in_A : 64 * (2 * s + 1) ≤ length image
+  in_A = omega arith
 
-  in-B : 64 * (2 * s + 1 + 1) ≤ length image
-  in-B = omega arith
+  in_B : 64 * (2 * s + 1 + 1) ≤ length image
+  in_B = omega arith
 
-  the-verdict : verdictBy (answer_of wholeQuery image lent (2 * s)) (answer_of versionQuery image lent (2 * s))
-      (answer_of wholeQuery image lent (2 * s + 1)) (answer_of versionQuery image lent (2 * s + 1)) ≡ slotVerdict (word image) s
-  unfolding slotVerdict lineVerdict
-  the-verdict =
-      ap₂ (λ (x y : ℕ). verdictBy x y (answer_of wholeQuery image lent (2 * s + 1)) (answer_of versionQuery image lent (2 * s + 1)))
-      (whole-answer image lent (2 * s) in-A room) (version-answer image lent (2 * s) in-A room bytes)
-      ∙ ap₂ (λ (x y : ℕ). verdictBy (cond (whole (line (word image) (2 * s) 0) (line (word image) (2 * s) 7)) 1 0) (versionOf (line (word image) (2 * s) 7)) x
+  the_verdict : verdict_by (answer_of whole_query image lent (2 * s)) (answer_of version_query image lent (2 * s))
+      (answer_of whole_query image lent (2 * s + 1)) (answer_of version_query image lent (2 * s + 1)) ≡ slot_verdict (word image) s
+  unfolding slot_verdict line_verdict
+  the_verdict =
+      ap₂ (λ (x y : ℕ). verdict_by x y (answer_of whole_query image lent (2 * s + 1)) (answer_of version_query image lent (2 * s + 1)))
+      (whole_answer image lent (2 * s) in_A room) (version_answer image lent (2 * s) in_A room bytes)
+      ∙ ap₂ (λ (x y : ℕ). verdict_by (cond (whole (line (word image) (2 * s) 0) (line (word image) (2 * s) 7)) 1 0) (version_of (line (word image) (2 * s) 7)) x
       y)
-      (whole-answer image lent (2 * s + 1) in-B room) (version-answer image lent (2 * s + 1) in-B room bytes)
-      ∙ verdict-answered (line (word image) (2 * s) 0) (line (word image) (2 * s) 7) (line (word image) (2 * s + 1) 0) (line (word image) (2 * s + 1) 7)
+      (whole_answer image lent (2 * s + 1) in_B room) (version_answer image lent (2 * s + 1) in_B room bytes)
+      ∙ verdict_answered (line (word image) (2 * s) 0) (line (word image) (2 * s) 7) (line (word image) (2 * s + 1) 0) (line (word image) (2 * s + 1) 7)
 
-  in-line : (n : ℕ) → n / 2 ≡ s → 64 * (n + 1) ≤ length image
-  in-line n h = omega arith
+  in_line : (n : ℕ) → n / 2 ≡ s → 64 * (n + 1) ≤ length image
+  in_line n h = omega arith
 
   -- ONE SLOT
-  slot-agreement : SlotAgreement image lent s
-  slot-agreement =
+  slot_agreement : SlotAgreement image lent s
+  slot_agreement =
       record {
-        verdict = the-verdict;
+        verdict = the_verdict;
         stores =
             λ l n key kind number value version h small.
-            record-framed l (word image) s key kind number value version n _ _ h (first-answer image lent n (in-line n h) room version small)
-            (last-answer image lent n (in-line n h) room version small);
+            record_framed l (word image) s key kind number value version n _ _ h (first_answer image lent n (in_line n h) room version small)
+            (last_answer image lent n (in_line n h) room version small);
       }
 
 -- EVERY LINE
-pub queries-agree : QueriesAgree
-queries-agree image lent bytes room =
+pub queries_agree : QueriesAgree
+queries_agree image lent bytes room =
     record {
-      on_line = λ n inside. line-agreement image lent n bytes inside room;
-      on-slot = λ s inside. slot-agreement image lent s bytes inside room;
+      on-line = λ n inside. line_agreement image lent n bytes inside room;
+      on_slot = λ s inside. slot_agreement image lent s bytes inside room;
     }

@@ -4,27 +4,27 @@ use mathlib.Core.Bool.{true}
 use mathlib.Core.List.{List}
 use Prim.Native.Nat.{ℕ}
 use Rattle.prelude.specs.Numbers.{ZeroOrOneOf}
-use Rattle.prelude.proofs.defs.Among.{isOne}
-use Rattle.prelude.proofs.Numbers.{none-due, one-due, else-due}
-use Rattle.layout.specs.Line.{versionFault}
-use Rattle.linequery.specs.Query.{sliceFault, nextFault, queried, wholeQuery, versionQuery, firstQuery, lastQuery}
-use Rattle.linequery.specs.Numbers.{lineRefusals, nextRefusals, QueryNumbers}
+use Rattle.prelude.proofs.defs.Among.{is_one}
+use Rattle.prelude.proofs.Numbers.{none_due, one_due, else_due}
+use Rattle.layout.specs.Line.{version_fault}
+use Rattle.linequery.specs.Query.{slice_fault, next_fault, queried, whole_query, version_query, first_query, last_query}
+use Rattle.linequery.specs.Numbers.{line_refusals, next_refusals, QueryNumbers}
 
-slices-due : (ks : List ℕ) → isOne 33 ks ≡ true → (line answer : ℕ) → ZeroOrOneOf ks (sliceFault line answer)
-unfolding sliceFault
-slices-due ks short line answer = one-due ks _ 33 _ short (one-due ks _ 33 0 short (none-due ks))
+slices_due : (ks : List ℕ) → is_one 33 ks ≡ true → (line answer : ℕ) → ZeroOrOneOf ks (slice_fault line answer)
+unfolding slice_fault
+slices_due ks short line answer = one_due ks _ 33 _ short (one_due ks _ 33 0 short (none_due ks))
 
-next-due : (line answer version : ℕ) → ZeroOrOneOf nextRefusals (nextFault line answer version)
-unfolding nextFault versionFault
-next-due line answer version = else-due nextRefusals _ _ (slices-due nextRefusals refl line answer) (one-due nextRefusals _ 9 0 refl (none-due nextRefusals))
+next_due : (line answer version : ℕ) → ZeroOrOneOf next_refusals (next_fault line answer version)
+unfolding next_fault version_fault
+next_due line answer version = else_due next_refusals _ _ (slices_due next_refusals refl line answer) (one_due next_refusals _ 9 0 refl (none_due next_refusals))
 
 -- THE NUMBERS of the queries
-pub query-numbers : QueryNumbers
-unfolding wholeQuery versionQuery firstQuery lastQuery queried
-query-numbers =
+pub query_numbers : QueryNumbers
+unfolding whole_query version_query first_query last_query queried
+query_numbers =
     record {
-      whole = λ line lent. slices-due lineRefusals refl _ _;
-      version = λ line lent. slices-due lineRefusals refl _ _;
-      first = λ version line lent. next-due _ _ version;
-      last = λ version line lent. next-due _ _ version;
+      whole = λ line lent. slices_due line_refusals refl _ _;
+      version = λ line lent. slices_due line_refusals refl _ _;
+      first = λ version line lent. next_due _ _ version;
+      last = λ version line lent. next_due _ _ version;
     }

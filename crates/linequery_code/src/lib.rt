@@ -2,14 +2,14 @@
 // or the refusal.
 ghost use Rattle.std.specs.Prelude.{◌≡◌, cond};
 ghost use Rattle.layout.specs.Line.{whole};
-ghost use Rattle.linequery.specs.Query.{sliceFault, nextFault, queryEnd, wholeQuery, versionQuery, firstQuery, lastQuery};
+ghost use Rattle.linequery.specs.Query.{slice_fault, next_fault, query_end, whole_query, version_query, first_query, last_query};
 
 use layout_line_code::line::{first_word, is_whole, last_word, version_fault, version_of};
 use words_code::{read_word, write_word};
 
 // 33 for a line or an answer of another length, else 0.
 fn slice_fault(line: usize, answer: usize) -> u32
-    ensures { result ≡ sliceFault line answer }
+    ensures { result ≡ slice_fault line answer }
 {
     if line != 64 {
         return 33;
@@ -22,7 +22,7 @@ fn slice_fault(line: usize, answer: usize) -> u32
 
 // The same, then 9 for a next version that cannot be written.
 fn next_fault(line: usize, answer: usize, version: u64) -> u32
-    ensures { result ≡ nextFault line answer version }
+    ensures { result ≡ next_fault line answer version }
 {
     let fault = slice_fault(line, answer);
     if fault != 0 {
@@ -43,7 +43,7 @@ fn whole_word(mark: u64, stamp: u64) -> u64
 
 // Is the line whole?
 pub fn whole_query(line: &[u8], answer: &mut [u8]) -> u32
-    ensures result { queryEnd result answer.new ≡ wholeQuery line.now answer.old }
+    ensures result { query_end result answer.new ≡ whole_query line.now answer.old }
 {
     let fault = slice_fault(line.len(), answer.len());
     if fault != 0 {
@@ -59,7 +59,7 @@ pub fn whole_query(line: &[u8], answer: &mut [u8]) -> u32
 
 // The version of the line.
 pub fn version_query(line: &[u8], answer: &mut [u8]) -> u32
-    ensures result { queryEnd result answer.new ≡ versionQuery line.now answer.old }
+    ensures result { query_end result answer.new ≡ version_query line.now answer.old }
 {
     let fault = slice_fault(line.len(), answer.len());
     if fault != 0 {
@@ -71,7 +71,7 @@ pub fn version_query(line: &[u8], answer: &mut [u8]) -> u32
 
 // The first word that a call of this version stores into the line.
 pub fn first_query(line: &[u8], version: u64, answer: &mut [u8]) -> u32
-    ensures result { queryEnd result answer.new ≡ firstQuery version line.now answer.old }
+    ensures result { query_end result answer.new ≡ first_query version line.now answer.old }
 {
     let fault = next_fault(line.len(), answer.len(), version);
     if fault != 0 {
@@ -83,7 +83,7 @@ pub fn first_query(line: &[u8], version: u64, answer: &mut [u8]) -> u32
 
 // And the last.
 pub fn last_query(line: &[u8], version: u64, answer: &mut [u8]) -> u32
-    ensures result { queryEnd result answer.new ≡ lastQuery version line.now answer.old }
+    ensures result { query_end result answer.new ≡ last_query version line.now answer.old }
 {
     let fault = next_fault(line.len(), answer.len(), version);
     if fault != 0 {

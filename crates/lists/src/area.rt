@@ -1,7 +1,7 @@
 // The calls of the log, in both forms.
 use crate::both::{Both, Numbers, Side, empty, show_equal};
 use lists_code::lent::{LogListed, append_lent, recover_lent};
-use log::LogOutcome;
+use message_log::LogOutcome;
 use log_code::{append, recover_log};
 use orderset::Store;
 use show::fronts::{numbers_of, values_of};

@@ -32,21 +32,21 @@ use denote.Struct.Steps.{spelt}
 use Rattle.mir_steps.proofs.Lent.{OwnsMut, OwnsShr}
 
 -- the cell of a local array of any elements
-abbrev pub listCell : (R : RattleType) → (R.Denot → List Val) → ℕ → List R.Denot → ℕ → Fml
-listCell R vals n xs b = fat full_share (ty_array (lone R.mir) n) b 0 (only (array_vals vals xs))
+abbrev pub list_cell : (R : RattleType) → (R.Denot → List Val) → ℕ → List R.Denot → ℕ → Fml
+list_cell R vals n xs b = fat full_share (ty_array (lone R.mir) n) b 0 (only (array_vals vals xs))
 
 -- the lender's part of one that is lent as `&`
 abbrev pub SharedList : (R : RattleType) → Lft → ℕ → List R.Denot → ℕ → Fml
 SharedList R κ n xs b = flent κ ((arr_parts (shares R) n).part full_share xs b 0)
 
 module _ {M : Type 1} {𝓤 : Ura M} {𝓛 : Logic 𝓤} {K : Type 0} {Γ : List (Item 𝓤)} {G : Goal 𝓤 𝓛.H} where
-  pub list-lent : K → Soaks G → (R : RattleType) → Makes 𝓛 R (Is R) → Single R.mir → (vals : R.Denot → List Val) (n : ℕ) (xs : List R.Denot)
+  pub list_lent : K → Soaks G → (R : RattleType) → Makes 𝓛 R (Is R) → Single R.mir → (vals : R.Denot → List Val) (n : ℕ) (xs : List R.Denot)
       (b : ℕ) (κ : Lft)
       → Is (Array R n) xs (array_vals vals xs) → Room R (length xs)
       → ((γ : GName) → Seq K 𝓛 (‵ (OwnsMut R κ b 0 γ xs (slice_val (b, 0) n ∷ [])) ∷ ‵ (flent κ (Held R n b 0 γ)) ∷ Γ) G)
-      → Seq K 𝓛 (‵ (listCell R vals n xs b) ∷ Γ) G
+      → Seq K 𝓛 (‵ (list_cell R vals n xs b) ∷ Γ) G
   unfolding part_of
-  list-lent t z R mk single vals n xs b κ is room k =
+  list_lent t z R mk single vals n xs b κ is room k =
       use1 𝓛 (‵ (cell_at full_share (Array R n).mir (array_vals vals xs) b 0)) (𝓛.laws.at_raw full_share (ty_array (lone R.mir) n) b 0
       (only (array_vals vals xs))) $
       owned t (Array R n) (Is (Array R n)) (Array-Makes 𝓛 R mk n) xs (array_vals vals xs) is $ move t (1 ∷ 0 ∷ []) $ fjoin t $
@@ -61,7 +61,7 @@ module _ {M : Type 1} {𝓤 : Ura M} {𝓛 : Logic 𝓤} {K : Type 0} {Γ : List
 
   pub list_back : K → Soaks G → (R : RattleType) (vals : R.Denot → List Val) → Tells R (Is R) vals → (n : ℕ) (zs : List R.Denot) (γ : GName) (b : ℕ)
       (κ : Lft)
-      → (Is (Array R n) zs (array_vals vals zs) → Seq K 𝓛 (‵ (listCell R vals n zs b) ∷ Γ) G)
+      → (Is (Array R n) zs (array_vals vals zs) → Seq K 𝓛 (‵ (list_cell R vals n zs b) ∷ Γ) G)
       → Seq K 𝓛 (‵ (fdead κ) ∷ ‵ (flent κ (Held R n b 0 γ)) ∷ ‵ (finally R γ zs) ∷ Γ) G
   unfolding part_of
   list_back t z R vals tells n zs γ b κ k =
@@ -70,16 +70,16 @@ module _ {M : Type 1} {𝓤 : Ura M} {𝓛 : Logic 𝓤} {K : Type 0} {Γ : List
       use1 𝓛 (‵ (part_at (Array R n) full_share zs b 0)) (Array-whole 𝓛 R full_share n zs b 0) $ fpick t (λ vs. fsplit t $ move t (1 ∷ []) $
       facts t (Array R n) (Is (Array R n)) (shows 𝓛 (Array R n)) zs vs (λ is.
       rewrite t 0 (λ (us : List Val). ‵ (cell_at full_share (Array R n).mir us b 0)) (Array-Tells R vals tells n zs vs is) refl $
-      use1 𝓛 (‵ (listCell R vals n zs b)) (𝓛.laws.raw_at full_share (ty_array (lone R.mir) n) b 0 (only (array_vals vals zs))) $
+      use1 𝓛 (‵ (list_cell R vals n zs b)) (𝓛.laws.raw_at full_share (ty_array (lone R.mir) n) b 0 (only (array_vals vals zs))) $
       k (subst (Is (Array R n) zs) (Array-Tells R vals tells n zs vs is) is)))
 
-  pub list-shared : K → Soaks G → (R : RattleType) → Makes 𝓛 R (Is R) → Single R.mir → (vals : R.Denot → List Val) (n : ℕ) (xs : List R.Denot)
+  pub list_shared : K → Soaks G → (R : RattleType) → Makes 𝓛 R (Is R) → Single R.mir → (vals : R.Denot → List Val) (n : ℕ) (xs : List R.Denot)
       (b : ℕ) (κ : Lft)
       → Is (Array R n) xs (array_vals vals xs) → Room R (length xs)
       → ((γ : GName) → Seq K 𝓛 (‵ (OwnsShr R κ b 0 γ xs (slice_val (b, 0) n ∷ [])) ∷ ‵ (SharedList R κ n xs b) ∷ Γ) G)
-      → Seq K 𝓛 (‵ (listCell R vals n xs b) ∷ Γ) G
+      → Seq K 𝓛 (‵ (list_cell R vals n xs b) ∷ Γ) G
   unfolding part_of
-  list-shared t z R mk single vals n xs b κ is room k =
+  list_shared t z R mk single vals n xs b κ is room k =
       use1 𝓛 (‵ (cell_at full_share (Array R n).mir (array_vals vals xs) b 0)) (𝓛.laws.at_raw full_share (ty_array (lone R.mir) n) b 0
       (only (array_vals vals xs))) $
       owned t (Array R n) (Is (Array R n)) (Array-Makes 𝓛 R mk n) xs (array_vals vals xs) is $ move t (1 ∷ 0 ∷ []) $ fjoin t $
@@ -93,10 +93,10 @@ module _ {M : Type 1} {𝓤 : Ura M} {𝓛 : Logic 𝓤} {K : Type 0} {Γ : List
       rewrite t 1 (λ (j : ℕ). ‵ (SharedList R κ j xs b)) is.1.0.1 refl $ k γ)
 
   pub shared_back : K → Soaks G → (R : RattleType) (vals : R.Denot → List Val) → Tells R (Is R) vals → (n : ℕ) (xs : List R.Denot) (b : ℕ) (κ : Lft)
-      → Step K 𝓛 (‵ (listCell R vals n xs b) ∷ Γ) G (‵ (fdead κ) ∷ ‵ (SharedList R κ n xs b) ∷ Γ) G
+      → Step K 𝓛 (‵ (list_cell R vals n xs b) ∷ Γ) G (‵ (fdead κ) ∷ ‵ (SharedList R κ n xs b) ∷ Γ) G
   unfolding part_of
   shared_back t z R vals tells n xs b κ = step (λ s. lent_back t z $
       use1 𝓛 (‵ (part_at (Array R n) full_share xs b 0)) (Array-whole 𝓛 R full_share n xs b 0) $ fpick t (λ vs. fsplit t $
       spelt t (Array R n) (Is (Array R n)) (shows 𝓛 (Array R n)) (array_vals vals) (Array-Tells R vals tells n) full_share xs vs b 0 $
-      move t (1 ∷ []) $ drop t $ use1 𝓛 (‵ (listCell R vals n xs b)) (𝓛.laws.raw_at full_share (ty_array (lone R.mir) n) b 0 (only (array_vals vals xs)))
+      move t (1 ∷ []) $ drop t $ use1 𝓛 (‵ (list_cell R vals n xs b)) (𝓛.laws.raw_at full_share (ty_array (lone R.mir) n) b 0 (only (array_vals vals xs)))
       $ s))

@@ -59,9 +59,9 @@ use Rattle.stores.proofs.Store.TheLaws as T'
 use Rattle.index.specs.declared.State.{State}
 use Rattle.index.specs.contracts.State as S
 use Rattle.index.proofs.State.TheLaws as S'
-use Rattle.calls.specs.Basket.{basketResult}
-use Rattle.calls.specs.BasketItems.{changesOf}
-use Rattle.calls.specs.BasketList.{basketListEnd, buffersAfterList}
+use Rattle.calls.specs.Basket.{basket_result}
+use Rattle.calls.specs.BasketItems.{changes_of}
+use Rattle.calls.specs.BasketList.{basket_list_end, buffers_after_list}
 use Rattle.calls.specs.declared.BasketItem.{BasketItem}
 use Rattle.calls.specs.contracts.BasketItem as I
 use Rattle.calls.proofs.BasketItem.TheLaws as I'
@@ -73,10 +73,10 @@ use Rattle.calls_basket_list_code.proofs.Walk.{clauses as called}
 use Rattle.lists_code.specs.declared.lent.BasketListed.{BasketListed}
 use Rattle.lists_code.specs.contracts.lent.BasketListed as D
 use Rattle.lists_code.proofs.lent.BasketListed.TheLaws as D'
-use Rattle.lists_code.proofs.Lending.{list-lent, list_back}
+use Rattle.lists_code.proofs.Lending.{list_lent, list_back}
 use Rattle.lists_code.specs.contracts.lent.basket_listed as h
 use Rattle.lists_code.proofs.lent.basket_listed.Symbol as h-def
-use Rattle.lists_code.proofs.lent.basket_listed.Symbol.{name as #basket-listed}
+use Rattle.lists_code.proofs.lent.basket_listed.Symbol.{name as #basket_listed}
 use Rattle.lists_code.proofs.lent.basket_listed.Met as h_thm
 use Rattle.lists_code.specs.contracts.lent.basket_lent as f
 
@@ -107,15 +107,15 @@ locals =
     ∷ value (ty_array T'.mir 48) ∷ []
 
 -- local i, and field k of it
-abbrev held_in : ℕ → Opd
-held_in i = copy (place i [])
+abbrev held-in : ℕ → Opd
+held-in i = copy (place i [])
 
 abbrev part : ℕ → ℕ → Opd
 part i k = copy (place i (field k ∷ []))
 
 -- slice i, of numbers, is lent on: to k its pointer, to the next local the slice
 abbrev lends : ℕ → ℕ → Body → Body
-lends i k rest = seq (assign (place k []) (addr_of (place i (field 0 ∷ deref (ty_int w32) ∷ [])))) (seq (assign (place (suc k) []) (aggregate (held_in k ∷ part
+lends i k rest = seq (assign (place k []) (addr_of (place i (field 0 ∷ deref (ty_int w32) ∷ [])))) (seq (assign (place (suc k) []) (aggregate (held-in k ∷ part
     i 1 ∷ []))) rest)
 
 abbrev pub function : (callee : Name) → Fn
@@ -124,10 +124,10 @@ function callee = record {
   outlives = [];
   params = 8;
   locals = locals;
-  body = seq (assign (place 9 []) (rv_opd (held_in 8))) (lends 2 11 (lends 3 13 (
-      seq (assign (place 15 []) (addr_of (place 9 []))) (seq (assign (place 16 []) (aggregate (held_in 15 ∷ int w64 48 ∷ [])))
-      (seq (call callee (held_in 1 ∷ held_in 12 ∷ held_in 14 ∷ held_in 4 ∷ held_in 5 ∷ held_in 6 ∷ held_in 7 ∷ held_in 16 ∷ []) (place 10 []))
-      (seq (assign (place 17 []) (rv_opd (held_in 9))) (seq (call #basket-listed (held_in 10 ∷ held_in 17 ∷ []) (place 0 [])) return)))))));
+  body = seq (assign (place 9 []) (rv_opd (held-in 8))) (lends 2 11 (lends 3 13 (
+      seq (assign (place 15 []) (addr_of (place 9 []))) (seq (assign (place 16 []) (aggregate (held-in 15 ∷ int w64 48 ∷ [])))
+      (seq (call callee (held-in 1 ∷ held-in 12 ∷ held-in 14 ∷ held-in 4 ∷ held-in 5 ∷ held-in 6 ∷ held-in 7 ∷ held-in 16 ∷ []) (place 10 []))
+      (seq (assign (place 17 []) (rv_opd (held-in 9))) (seq (call #basket_listed (held-in 10 ∷ held-in 17 ∷ []) (place 0 [])) return)))))));
 }
 
 -- ---- the contract
@@ -137,9 +137,9 @@ clauses 𝓤 l κs a = record {
   ghost = Unit {0};
   requires = λ _. emp 𝓤;
   ensures = λ _ r e. fact 𝓤 (
-      basketListEnd a.1.1.1.1.0 r.answer r.list e.1.0.now e.1.1.0.now
-      ≡ buffersAfterList a.1.1.1.1.1.1.1.0
-      (basketResult l a.0.now (index_of a.1.0.now a.1.1.0.now a.1.1.1.0) (changesOf l a.1.1.1.1.0 a.1.1.1.1.1.0 a.1.1.1.1.1.1.0)
+      basket_list_end a.1.1.1.1.0 r.answer r.list e.1.0.now e.1.1.0.now
+      ≡ buffers_after_list a.1.1.1.1.1.1.1.0
+      (basket_result l a.0.now (index_of a.1.0.now a.1.1.0.now a.1.1.1.0) (changes_of l a.1.1.1.1.0 a.1.1.1.1.1.0 a.1.1.1.1.1.1.0)
       (length a.1.1.1.1.1.1.1.0) (length a.1.1.1.1.1.1.1.0))
       );
 }
@@ -204,11 +204,11 @@ module _ (l : ℕ) (callee : Name) {M : Type 1} {𝓤 : Ura M} (𝓛 : Logic �
   abbrev lv : Val
   lv = only (array_vals svals list)
 
-  list-size : length list ≡ 48
-  list-size = is-list.1.0.1
+  list_size : length list ≡ 48
+  list_size = is-list.1.0.1
 
   room : Room T.the_row (length list)
-  room = (omega (arith, list-size), omega (arith, list-size))
+  room = (omega (arith, list_size), omega (arith, list_size))
 
   abbrev Arg : Type 0 → Type 0
   Arg X = Bor (List ℕ) × (Bor (List ℕ) × (Bor (List ℕ) × (State × (ℕ × (List BasketItem × (List ℕ × (X × Unit {0})))))))
@@ -282,16 +282,16 @@ module _ (l : ℕ) (callee : Name) {M : Type 1} {𝓤 : Ura M} (𝓛 : Logic �
 
   abbrev Result : BasketAnswer → List Store → List ℕ → List ℕ → Type 0
   Result r zs hs ns =
-      basketListEnd n r zs hs ns ≡ buffersAfterList list (basketResult l image (index_of heads next st) (changesOf l n items values) (length list) (length list))
+      basket_list_end n r zs hs ns ≡ buffers_after_list list (basket_result l image (index_of heads next st) (changes_of l n items values) (length list) (length list))
 
   -- ---- `basket_listed`
 
   module _ (r : BasketAnswer) (w : Val) (is-r : Is B.the_row r (w ∷ [])) (zs : List Store) (is-zs : Is (Array T.the_row 48) zs (array_vals svals zs))
       (hs ns : List ℕ) (told : Result r zs hs ns) where
-    abbrev to-joined : (Joined 𝓛 mem run).Ghost
-    to-joined = ((tt, tt, tt, (r, (zs, tt)), (w ∷ [], (array_vals svals zs, tt))), tt)
+    abbrev to_joined : (Joined 𝓛 mem run).Ghost
+    to_joined = ((tt, tt, tt, (r, (zs, tt)), (w ∷ [], (array_vals svals zs, tt))), tt)
 
-    joins : ent 𝓤 (⋆ 𝓛 []) ((Joined 𝓛 mem run).pre to-joined)
+    joins : ent 𝓤 (⋆ 𝓛 []) ((Joined 𝓛 mem run).pre to_joined)
     joins =
         qed 𝓛 [] ∵ nothing ! $ nothing ! $
         owned ! (Array T.the_row 48) (Is (Array T.the_row 48)) (Array-Makes 𝓛 T.the_row (LL.makes T.the_type T'.the_plain 𝓛) 48) zs _ is-zs $ fjoin
@@ -310,14 +310,14 @@ module _ (l : ℕ) (callee : Name) {M : Type 1} {𝓤 : Ura M} (𝓛 : Logic �
         qed 𝓛 Left ∵
         suffices ! _ (ends_at 𝓛 f.ended stayed (clauses 𝓤 l) bound v m (tt, (hs, (ns, (tt, (tt, (tt, (tt, (tt, tt))))))))
         (tt, (eh, (en, (tt, (tt, (tt, (tt, (tt, tt))))))))) $
-        says ! (ap (λ (x : BasketAnswer). basketListEnd n x m.list hs ns) same.0 ∙ ap (λ (x : List Store). basketListEnd n r x hs ns) same.1 ∙ told) $
+        says ! (ap (λ (x : BasketAnswer). basket_list_end n x m.list hs ns) same.0 ∙ ap (λ (x : List Store). basket_list_end n r x hs ns) same.1 ∙ told) $
         nothing ! $ move ! (1 ∷ 0 ∷ []) $ join ! $ move ! (1 ∷ 0 ∷ []) $ join ! $ move ! (1 ∷ 0 ∷ []) $ join ! $ frame ! $
         nothing ! $ nothing ! $ fjoin ! $ nothing ! $ fjoin ! $ nothing ! $ fjoin ! $ nothing ! $ fjoin ! $ nothing ! $ fjoin ! $ move ! (1 ∷ 0 ∷ []) $ fjoin
         ! $ move ! (1 ∷ 0 ∷ []) $ fjoin ! $ nothing ! $ fjoin ! $
         owned ! D.the_row (Is D.the_row) (LL.makes D.the_type D'.the_plain 𝓛) m _ is_m $ move ! (1 ∷ 0 ∷ []) $ done !
 
   module _ (C : Calls 𝓤 H) (Λ : Loops 𝓤 H) (fm : FmC 𝓤 H 𝓛.laws C) (known : Triple 𝓤 (C callee) (Call 𝓛 l)) (known_joined : Triple 𝓤
-      (C #basket-listed) (Joined 𝓛 mem run)) where
+      (C #basket_listed) (Joined 𝓛 mem run)) where
     walk : ent 𝓤 (on_entry 𝓛 f.signature (κ₀, (κ₁, (κ₂, tt))) (q₀, (q₁, (q₂, tt))) a vals) (WpFn 𝓤 H C Λ (function callee) (s₀ ∷ s₁ ∷ s₂ ∷ sv ∷ vint w64 n
         ∷ iv ∷ vv ∷ lv ∷ []) Post)
     walk =
@@ -338,7 +338,7 @@ module _ (l : ℕ) (callee : Name) {M : Type 1} {𝓤 : Ura M} (𝓛 : Logic �
         sets ! 32 (agg ! (and_then ! (copied ! 30 refl) (and_then ! (lit ! tt) (no_more !)))) refl (tt, (tt, (record { fits = lit< tt }, tt))) $
         -- the list is lent
         lft_new ! tt (λ α. move ! (19 ∷ []) $
-        list-lent {𝓤 = 𝓤} {𝓛 = 𝓛} ! tt T.the_row (LL.makes T.the_type T'.the_plain 𝓛) tt svals 48 list (block locals bs 9) (α ∷ []) is-list room
+        list_lent {𝓤 = 𝓤} {𝓛 = 𝓛} ! tt T.the_row (LL.makes T.the_type T'.the_plain 𝓛) tt svals 48 list (block locals bs 9) (α ∷ []) is-list room
         (λ γ.
         -- [the list, lent, and the lender's part; its token; the locals without the list; the tokens and what the parameters own]
         move ! (38 ∷ 39 ∷ 2 ∷ 0 ∷ []) $ group ! 4 $ use1 𝓛 (raw ((Call 𝓛 l).pre (ghosts (block locals bs 9) α γ))) (passes (block locals bs 9) α γ) $
@@ -366,9 +366,9 @@ module _ (l : ℕ) (callee : Name) {M : Type 1} {𝓤 : Ura M} (𝓛 : Logic �
         land ! (from ! (stop !)) (init ! 20 refl ((LL.lawful B.the_type B'.the_laws 𝓛).typed r _ is-r).0) $
         sets ! 34 (of_opd ! (copied ! 18 refl)) refl (typed zs.1.1.1.1.1.1.1.0 is-zs).0 $
         -- `basket_listed`
-        use0 𝓛 (raw ((Joined 𝓛 mem run).pre (to-joined r w is-r zs.1.1.1.1.1.1.1.0 is-zs zs.1.0 zs.1.1.0 told))) (joins r w is-r
+        use0 𝓛 (raw ((Joined 𝓛 mem run).pre (to_joined r w is-r zs.1.1.1.1.1.1.1.0 is-zs zs.1.0 zs.1.1.0 told))) (joins r w is-r
         zs.1.1.1.1.1.1.1.0 is-zs zs.1.0 zs.1.1.0 told) $
-        calls_at ! fm (Joined 𝓛 mem run) known_joined (to-joined r w is-r zs.1.1.1.1.1.1.1.0 is-zs zs.1.0 zs.1.1.0 told) (and_then !
+        calls_at ! fm (Joined 𝓛 mem run) known_joined (to_joined r w is-r zs.1.1.1.1.1.1.1.0 is-zs zs.1.0 zs.1.1.0 told) (and_then !
         (copied ! 21 refl) (and_then ! (copied ! 35 refl) (no_more !))) (λ v.
         use1 𝓛 (later (some (λ (m : BasketListed). (‵ ftrue ⊛ ‵ ((D.the_row).own_val m (v ∷ []))) ⊛ raw (ensured 𝓛 h.ended (h.clauses 𝓛 mem run) tt
         (r, (zs.1.1.1.1.1.1.1.0, tt)) tt m)))) (id⊢ 𝓤 _) $ await ! tt $ pick ! (λ m.
@@ -385,7 +385,7 @@ module _ (l : ℕ) (callee : Name) {M : Type 1} {𝓤 : Ura M} (𝓛 : Logic �
         freed ! locals bs [] $ by ! (exits r w is-r zs.1.1.1.1.1.1.1.0 is-zs zs.1.0 zs.1.1.0 told m v is_m same eh en))))))))))))))))))
 
 module _ (l : ℕ) (callee : Name) {M : Type 1} {𝓤 : Ura M} (𝓛 : Logic 𝓤) (mem : Memory → SProp 𝓤) (run : Routine → Fun 𝓤)
-    (𝓣 : Tables 𝓤 𝓛.H) (known : Triple 𝓤 (𝓣.C callee) (Call 𝓛 l)) (known_joined : Triple 𝓤 (𝓣.C #basket-listed) (Joined 𝓛 mem run)) where
+    (𝓣 : Tables 𝓤 𝓛.H) (known : Triple 𝓤 (𝓣.C callee) (Call 𝓛 l)) (known_joined : Triple 𝓤 (𝓣.C #basket_listed) (Joined 𝓛 mem run)) where
   open 𝓛 use {H}
 
   walks : Walks 𝓛 f.ended stayed (WpFn 𝓤 H 𝓣.C 𝓣.Λ (function callee)) (clauses 𝓤 l)
@@ -469,14 +469,14 @@ module _ (l : ℕ) (callee : Name) {M : Type 1} {𝓤 : Ura M} (𝓛 : Logic �
   )
       (clauses 𝓤 l) (WpFn 𝓤 H 𝓣.C 𝓣.Λ (function callee)) (WpFn-mono 𝓤 H 𝓛.laws 𝓣 (function callee)) walks
 
-pub basket-lent : (l : ℕ) (callee : Name) → {M : Type 1} {𝓤 : Ura M} (𝓛 : Logic 𝓤) (𝓜 : Model 𝓤 𝓛.H) (𝓡 : Running 𝓤 𝓛.H 𝓜) (env : Env)
+pub basket_lent : (l : ℕ) (callee : Name) → {M : Type 1} {𝓤 : Ura M} (𝓛 : Logic 𝓤) (𝓜 : Model 𝓤 𝓛.H) (𝓡 : Running 𝓤 𝓛.H 𝓜) (env : Env)
     (name : Name)
     → Closed 𝓤 𝓛.H (tables 𝓤 𝓛.H 𝓜 𝓡 env).C (tables 𝓤 𝓛.H 𝓜 𝓡 env).Λ name (function callee) → Triple 𝓤 ((tables 𝓤 𝓛.H 𝓜 𝓡 env).C callee) (Call 𝓛 l) → env
-    #basket-listed ≡ h-def.routine
+    #basket_listed ≡ h-def.routine
     → Meets 𝓛 f.signature (𝓡.run (env name)) (closing 𝓛 f.ended (clauses 𝓤 l))
 unfolding tables_of
-basket-lent l callee {𝓤 = 𝓤} 𝓛 𝓜 𝓡 env name unfolded known is-listed =
+basket_lent l callee {𝓤 = 𝓤} 𝓛 𝓜 𝓡 env name unfolded known is-listed =
     entered 𝓤 𝓛.H (triple_of 𝓛 f.signature (closing 𝓛 f.ended (clauses 𝓤 l))) (tables 𝓤 𝓛.H 𝓜 𝓡 env).C (tables 𝓤 𝓛.H 𝓜 𝓡 env).Λ name
     (function callee) unfolded
     (meets l callee 𝓛 𝓜.mem 𝓡.run (tables_of 𝓤 𝓛.H 𝓜 (tables 𝓤 𝓛.H 𝓜 𝓡 env)) known
-    (cited 𝓤 𝓛.H (Joined 𝓛 𝓜.mem 𝓡.run) 𝓜 𝓡 env #basket-listed h-def.routine is-listed (h_thm.met 𝓤 𝓛 𝓜 𝓡)))
+    (cited 𝓤 𝓛.H (Joined 𝓛 𝓜.mem 𝓡.run) 𝓜 𝓡 env #basket_listed h-def.routine is-listed (h_thm.met 𝓤 𝓛 𝓜 𝓡)))

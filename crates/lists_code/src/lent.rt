@@ -1,18 +1,18 @@
 // A local list of stores is lent to each call that takes one, and comes back by value.
 ghost use Rattle.std.specs.Prelude.{◌≡◌, length};
 ghost use Rattle.index.specs.Index.{index_of};
-ghost use Rattle.log.specs.LogOutcome.{logAnswer, logListEnd};
-ghost use Rattle.log.specs.Append.{appendListResult};
-ghost use Rattle.log.specs.Recover.{logRecoverListResult};
-ghost use Rattle.calls.specs.Basket.{basketResult};
-ghost use Rattle.calls.specs.BasketItems.{changesOf};
-ghost use Rattle.calls.specs.BasketList.{basketListEnd, buffersAfterList};
-ghost use Rattle.stores.specs.Play.{wordNumbers, values as values_of, playEnd, playListResult};
+ghost use Rattle.message_log.specs.LogOutcome.{log_answer, log_list_end};
+ghost use Rattle.message_log.specs.Append.{append_list_result};
+ghost use Rattle.message_log.specs.Recover.{log_recover_list_result};
+ghost use Rattle.calls.specs.Basket.{basket_result};
+ghost use Rattle.calls.specs.BasketItems.{changes_of};
+ghost use Rattle.calls.specs.BasketList.{basket_list_end, buffers_after_list};
+ghost use Rattle.stores.specs.Play.{word_numbers, values as values_of, play_end, play_list_result};
 
 use calls::{BasketAnswer, BasketItem};
 use calls_basket_list_code::list::{basket_list, basket_list2};
 use index::State;
-use log::LogOutcome;
+use message_log::LogOutcome;
 use log_list_code::{append_list, recover_list};
 use stores::Store;
 use stores_list_code::play::play_stores;
@@ -31,7 +31,7 @@ fn log_listed(answer: LogOutcome, list: [Store; 48]) -> LogListed
 }
 
 pub fn append_lent(area: &[u8], message: &[u8], list: [Store; 48]) -> LogListed
-    ensures listed { logListEnd (logAnswer result.answer) result.list ≡ appendListResult area.now message.now list }
+    ensures listed { log_list_end (log_answer result.answer) result.list ≡ append_list_result area.now message.now list }
 {
     let mut lent = list;
     let answer = append_list(area, message, &mut lent);
@@ -39,7 +39,7 @@ pub fn append_lent(area: &[u8], message: &[u8], list: [Store; 48]) -> LogListed
 }
 
 pub fn recover_lent(area: &[u8], list: [Store; 48]) -> LogListed
-    ensures listed { logListEnd (logAnswer result.answer) result.list ≡ logRecoverListResult area.now list }
+    ensures listed { log_list_end (log_answer result.answer) result.list ≡ log_recover_list_result area.now list }
 {
     let mut lent = list;
     let answer = recover_list(area, &mut lent);
@@ -69,9 +69,9 @@ pub fn basket_lent(
     values: [u8; 640],
     list: [Store; 48],
 ) -> BasketListed
-    ensures listed { basketListEnd count result.answer result.list heads.new next.new
-        ≡ buffersAfterList list
-        (basketResult 1 image.now (index_of heads.old next.old state) (changesOf 1 count items values)
+    ensures listed { basket_list_end count result.answer result.list heads.new next.new
+        ≡ buffers_after_list list
+        (basket_result 1 image.now (index_of heads.old next.old state) (changes_of 1 count items values)
         (length list) (length list)) }
 {
     let mut lent = list;
@@ -90,9 +90,9 @@ pub fn basket_lent2(
     values: [u8; 640],
     list: [Store; 48],
 ) -> BasketListed
-    ensures listed { basketListEnd count result.answer result.list heads.new next.new
-        ≡ buffersAfterList list
-        (basketResult 2 image.now (index_of heads.old next.old state) (changesOf 2 count items values)
+    ensures listed { basket_list_end count result.answer result.list heads.new next.new
+        ≡ buffers_after_list list
+        (basket_result 2 image.now (index_of heads.old next.old state) (changes_of 2 count items values)
         (length list) (length list)) }
 {
     let mut lent = list;
@@ -101,7 +101,7 @@ pub fn basket_lent2(
 }
 
 pub fn play_stores_lent(image: &mut [u8], list: [Store; 48]) -> u32
-    ensures played { playEnd result image.new ≡ playListResult image.old (wordNumbers list) (values_of list) }
+    ensures played { play_end result image.new ≡ play_list_result image.old (word_numbers list) (values_of list) }
 {
     play_stores(image, &list)
 }

@@ -4,10 +4,10 @@ ghost use Rattle.std.specs.Int.Bits.{bit_xor};
 ghost use Rattle.std.specs.Int.Count.{count_trailing_zeros};
 ghost use Rattle.words.specs.Word.{word};
 ghost use Rattle.layout.specs.Line.{line};
-ghost use Rattle.log.specs.Bit.{bit_at, differingPlace, storeCount, bitPair};
-ghost use Rattle.log.specs.Message.{pairDiffers};
-ghost use Rattle.log.specs.Append.{messageLine};
-ghost use Rattle.log.specs.inner.Needs.{LineInside, Pairable};
+ghost use Rattle.message_log.specs.Bit.{bit_at, differing_place, store_count, bit_pair};
+ghost use Rattle.message_log.specs.Message.{pair_differs};
+ghost use Rattle.message_log.specs.Append.{message_line};
+ghost use Rattle.message_log.specs.inner.Needs.{LineInside, Pairable};
 
 use words_code::{padded_word, read_word};
 
@@ -15,7 +15,7 @@ use words_code::{padded_word, read_word};
 // down, and the search ends at the first that differs. Past the message's end the new line is zeros.
 pub fn differing_word(area: &[u8], n: usize, message: &[u8], i: usize) -> usize
     requires { LineInside (length area.now) n i }
-    ensures result { result ≡ differingPlace 8 (line (word area.now) n) (messageLine message.now i) }
+    ensures result { result ≡ differing_place 8 (line (word area.now) n) (message_line message.now i) }
 {
     if message.len() <= 64 * i {
         return nonzero_word(area, n);
@@ -36,7 +36,7 @@ pub fn differing_word(area: &[u8], n: usize, message: &[u8], i: usize) -> usize
 // The same where the new line is zeros: the place of the highest word that is not zero.
 fn nonzero_word(area: &[u8], n: usize) -> usize
     requires { 64 * n + 64 ≤ length area.now }
-    ensures { result ≡ differingPlace 8 (line (word area.now) n) (λ (j : ℕ). 0) }
+    ensures { result ≡ differing_place 8 (line (word area.now) n) (λ (j : ℕ). 0) }
 {
     let mut left: usize = 8;
     let place = loop {
@@ -54,7 +54,7 @@ fn nonzero_word(area: &[u8], n: usize) -> usize
 // How many words of a line are stored: word 0 up to the one at this place, and none of equal lines.
 pub fn store_count(place: usize) -> usize
     requires { place ≤ 8 }
-    ensures result { result ≡ storeCount place }
+    ensures result { result ≡ store_count place }
 {
     if place == 8 {
         return 0;
@@ -89,7 +89,7 @@ fn pair_of(old: u64, new: u64, j: usize) -> u64
 // The pair of a line whose differing word is at this place; of equal lines it is bit 0 of word 0.
 pub fn line_pair(area: &[u8], n: usize, message: &[u8], i: usize, place: usize) -> u64
     requires { Pairable area.now n message.now i place }
-    ensures result { result ≡ bitPair (line (word area.now) n) (messageLine message.now i) }
+    ensures result { result ≡ bit_pair (line (word area.now) n) (message_line message.now i) }
 {
     if place == 8 {
         return 512 * (padded_word(message, 8 * i) % 2);
@@ -102,7 +102,7 @@ pub fn line_pair(area: &[u8], n: usize, message: &[u8], i: usize, place: usize) 
 // Is the bit that the pair names in the line not the pair's value?
 pub fn pair_differs(area: &[u8], n: usize, pair: u64) -> bool
     requires { (64 * n + 64 ≤ length area.now) × (pair < 1024) }
-    ensures result { result ≡ pairDiffers pair (line (word area.now) n) }
+    ensures result { result ≡ pair_differs pair (line (word area.now) n) }
 {
     let position = pair % 512;
     let held = read_word(area, 8 * n + (position / 64) as usize);

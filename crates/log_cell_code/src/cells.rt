@@ -2,9 +2,9 @@
 // the number of cells.
 ghost use Rattle.std.specs.Prelude.{◌≡◌, ℕ, ◌+◌, ◌*◌, ◌≤◌, ◌<◌, max, length};
 ghost use Rattle.words.specs.Word.{word};
-ghost use Rattle.log.specs.Area.{cells_of};
-ghost use Rattle.log.specs.Message.{bitsDiffer, messageNumber, highest, shown};
-ghost use Rattle.log.specs.inner.Needs.{CellCount, CellInside};
+ghost use Rattle.message_log.specs.Area.{cells_of};
+ghost use Rattle.message_log.specs.Message.{bits_differ, message_number, highest, shown};
+ghost use Rattle.message_log.specs.inner.Needs.{CellCount, CellInside};
 
 use crate::bit::pair_differs;
 use words_code::{greater, read_word};
@@ -28,7 +28,7 @@ pub fn cell_count(len: usize) -> usize
 // Does one of the six bits of cell c not match?
 fn bits_differ(area: &[u8], c: usize) -> bool
     requires { 448 * (c + 1) ≤ length area.now }
-    ensures { result ≡ bitsDiffer (word area.now) c }
+    ensures { result ≡ bits_differ (word area.now) c }
 {
     let mut rest = read_word(area, 8 * (7 * c) + 2);
     let mut i = 0;
@@ -45,7 +45,7 @@ fn bits_differ(area: &[u8], c: usize) -> bool
 // The complete number that stands in cell c, 0 if none does.
 fn number_in(area: &[u8], k: usize, c: usize) -> u64
     requires { CellInside (length area.now) k c }
-    ensures { result ≡ messageNumber k (word area.now) c }
+    ensures { result ≡ message_number k (word area.now) c }
 {
     let stamp = read_word(area, 8 * (7 * c) + 7);
     if read_word(area, 8 * (7 * c)) != stamp % 2 {
@@ -74,7 +74,7 @@ fn number_in(area: &[u8], k: usize, c: usize) -> u64
 // The greater of best and the complete number of cell c. A line whose version is not above best needs no further look.
 fn greater_in(area: &[u8], k: usize, c: usize, best: u64) -> u64
     requires { CellInside (length area.now) k c }
-    ensures { result ≡ max (messageNumber k (word area.now) c) best }
+    ensures { result ≡ max (message_number k (word area.now) c) best }
 {
     let stamp = read_word(area, 8 * (7 * c) + 7);
     if stamp / 2 <= best {

@@ -1,9 +1,9 @@
 // Append: the plan, the stores and the answer.
 ghost use Rattle.std.specs.Prelude.{◌≡◌};
-ghost use Rattle.log.specs.LogOutcome.{logAnswer, logEnd};
-ghost use Rattle.log.specs.Append.{appendAfterResult, appendResult};
+ghost use Rattle.message_log.specs.LogOutcome.{log_answer, log_end};
+ghost use Rattle.message_log.specs.Append.{append_after_result, append_result};
 
-use log::LogOutcome;
+use message_log::LogOutcome;
 use log_cell_code::cells::{cell_count, highest_number};
 use log_stores_code::filling::fill_message;
 use log_stores_code::planning::append_plan;
@@ -17,8 +17,8 @@ pub fn append_after(
     at: &mut [u32],
     value: &mut [u64],
 ) -> LogOutcome
-    ensures result { logEnd (logAnswer result) at.new value.new
-        ≡ appendAfterResult area.now last message.now at.old value.old }
+    ensures result { log_end (log_answer result) at.new value.new
+        ≡ append_after_result area.now last message.now at.old value.old }
 {
     let plan = append_plan(area, last, message, at.len(), value.len());
     let fault = plan.fault;
@@ -34,8 +34,8 @@ pub fn append_after(
 
 // Appends a message after the highest complete number, which is looked for in all cells.
 pub fn append(area: &[u8], message: &[u8], at: &mut [u32], value: &mut [u64]) -> LogOutcome
-    ensures result { logEnd (logAnswer result) at.new value.new
-        ≡ appendResult area.now message.now at.old value.old }
+    ensures result { log_end (log_answer result) at.new value.new
+        ≡ append_result area.now message.now at.old value.old }
 {
     let k = cell_count(area.len());
     if k == 0 {

@@ -4,6 +4,6 @@ mod reading;
 mod recovering;
 
 pub use appending::{append, append_after};
-pub use log::{LogOutcome, Part};
+pub use message_log::{LogOutcome, Part};
 pub use reading::{find, read};
 pub use recovering::recover_log;

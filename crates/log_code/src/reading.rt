@@ -2,18 +2,18 @@
 ghost use Rattle.std.specs.Prelude.{◌≡◌, [], ◌∷◌};
 ghost use Rattle.prelude.specs.Answer.{gives};
 ghost use Rattle.words.specs.Word.{word};
-ghost use Rattle.log.specs.Area.{markedLine};
-ghost use Rattle.log.specs.Message.{messageStart, messageIn};
-ghost use Rattle.log.specs.Read.{readFault, readEnd, readResult, partSays, partResult};
-ghost use Rattle.log.specs.inner.Needs.{Readable};
+ghost use Rattle.message_log.specs.Area.{marked_line};
+ghost use Rattle.message_log.specs.Message.{message_start, message_in};
+ghost use Rattle.message_log.specs.Read.{read_fault, read_end, read_result, part_says, part_result};
+ghost use Rattle.message_log.specs.inner.Needs.{Readable};
 
-use log::Part;
+use message_log::Part;
 use log_cell_code::cells::{cell_count, is_shown};
 use words_code::read_word;
 
 // 30 or 31, else 0.
 fn read_fault(area: &[u8], number: u64) -> u32
-    ensures { result ≡ readFault area.now number }
+    ensures { result ≡ read_fault area.now number }
 {
     let k = cell_count(area.len());
     if k == 0 {
@@ -28,7 +28,7 @@ fn read_fault(area: &[u8], number: u64) -> u32
 // The message in cell c.
 fn message_part(area: &[u8], c: usize) -> &[u8]
     requires { Readable area.now c }
-    ensures { result.now ≡ messageIn area.now c }
+    ensures { result.now ≡ message_in area.now c }
 {
     let size = read_word(area, 8 * (7 * c) + 1) as usize;
     let start = 448 * c + 64;
@@ -46,7 +46,7 @@ fn no_part(area: &[u8]) -> &[u8]
 
 // The message with this number, unpadded, and 0 in refusal; or an empty part and the number of the refusal.
 pub fn read<'a>(area: &'a [u8], number: u64, refusal: &mut u32) -> &'a [u8]
-    ensures result { readEnd result.now refusal.new ≡ readResult area.now number }
+    ensures result { read_end result.now refusal.new ≡ read_result area.now number }
 {
     let fault = read_fault(area, number);
     *refusal = fault;
@@ -61,7 +61,7 @@ pub fn read<'a>(area: &'a [u8], number: u64, refusal: &mut u32) -> &'a [u8]
 // Where the message in cell c stands.
 fn part_in(area: &[u8], c: usize) -> Part
     requires { Readable area.now c }
-    ensures { partSays result ≡ gives (messageStart c ∷ markedLine (word area.now) c 1 ∷ []) }
+    ensures { part_says result ≡ gives (message_start c ∷ marked_line (word area.now) c 1 ∷ []) }
 {
     let size = read_word(area, 8 * (7 * c) + 1) as usize;
     Part::At {
@@ -72,7 +72,7 @@ fn part_in(area: &[u8], c: usize) -> Part
 
 // Where the message with this number stands, or the refusal.
 pub fn find(area: &[u8], number: u64) -> Part
-    ensures result { partSays result ≡ partResult area.now number }
+    ensures result { part_says result ≡ part_result area.now number }
 {
     let fault = read_fault(area, number);
     if fault != 0 {

@@ -1,8 +1,8 @@
 -- What the log's exported functions return and leave in the lent numbers, by the results that the public calls promise.
 -- Document 02, A.10.
 use Rattle.std.specs.Prelude.{List, ℕ}
-use Rattle.prelude.specs.Answer.{Answer, refusalIn, givenOr}
-use Rattle.log.specs.LogOutcome.{LogResult}
+use Rattle.prelude.specs.Answer.{Answer, refusal_in, given_or}
+use Rattle.message_log.specs.LogOutcome.{LogResult}
 
 -- ---- append and recover
 
@@ -14,13 +14,13 @@ pub record HandCall : Type 0 where
   pub value : List ℕ
 
 -- what a call with this code left
-abbrev pub handLeft : (code : ℕ) → (answer at value : List ℕ) → HandCall
-handLeft code answer at value = record { returns = code; answer = answer; at = at; value = value }
+abbrev pub hand_left : (code : ℕ) → (answer at value : List ℕ) → HandCall
+hand_left code answer at value = record { returns = code; answer = answer; at = at; value = value }
 
 -- the same, by the result of the call and the lent answer: the number and the count of stores; a refused call changes
 -- nothing lent
-unfoldable pub handCall : LogResult → (answer : List ℕ) → HandCall
-handCall r answer = handLeft (refusalIn r.answer) (givenOr r.answer answer) r.at r.value
+unfoldable pub hand_call : LogResult → (answer : List ℕ) → HandCall
+hand_call r answer = hand_left (refusal_in r.answer) (given_or r.answer answer) r.at r.value
 
 -- ---- read
 
@@ -30,9 +30,9 @@ pub record PartCall : Type 0 where
   pub answer : List ℕ
 
 -- what a call with this code left
-abbrev pub partLeft : (code : ℕ) → (answer : List ℕ) → PartCall
-partLeft code answer = record { returns = code; answer = answer }
+abbrev pub part_left : (code : ℕ) → (answer : List ℕ) → PartCall
+part_left code answer = record { returns = code; answer = answer }
 
 -- the same, by where the message stands: the first byte of the part and how many bytes it has
-unfoldable pub partCall : Answer → (answer : List ℕ) → PartCall
-partCall r answer = partLeft (refusalIn r) (givenOr r answer)
+unfoldable pub part_call : Answer → (answer : List ℕ) → PartCall
+part_call r answer = part_left (refusal_in r) (given_or r answer)

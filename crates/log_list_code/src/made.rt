@@ -1,19 +1,19 @@
 // An append and a recovery whose stores are made in arrays.
 ghost use Rattle.std.specs.Prelude.{◌≡◌};
 ghost use Rattle.words.specs.Word.{word};
-ghost use Rattle.log.specs.Area.{cells_in};
-ghost use Rattle.log.specs.Message.{highest};
-ghost use Rattle.log.specs.Append.{nextMessage, appendStores, appendFault};
-ghost use Rattle.log.specs.Recover.{recoveryStores, logRecoverFault};
-ghost use Rattle.log.specs.inner.List.{storedCount, StoresMade};
+ghost use Rattle.message_log.specs.Area.{cells_in};
+ghost use Rattle.message_log.specs.Message.{highest};
+ghost use Rattle.message_log.specs.Append.{next_message, append_stores, append_fault};
+ghost use Rattle.message_log.specs.Recover.{recovery_stores, log_recover_fault};
+ghost use Rattle.message_log.specs.inner.List.{stored_count, StoresMade};
 
-use log::{AppendMade, LogOutcome, RecoveryMade};
+use message_log::{AppendMade, LogOutcome, RecoveryMade};
 use log_code::{append, recover_log};
 use words_code::lesser;
 
 // How many stores are handed out.
 fn stored_count(answer: LogOutcome) -> usize
-    ensures { result ≡ storedCount answer }
+    ensures { result ≡ stored_count answer }
 {
     match answer {
         LogOutcome::Stored { number: _, count } => count,
@@ -23,9 +23,9 @@ fn stored_count(answer: LogOutcome) -> usize
 
 // An append for a list with this room.
 pub fn append_made(area: &[u8], message: &[u8], room: usize) -> AppendMade
-    ensures result { StoresMade 56 room (appendFault area.now message.now room room)
-        (nextMessage (cells_in area.now) (word area.now))
-        (appendStores (cells_in area.now) (word area.now) message.now) result.answer result.stored result.at result.value }
+    ensures result { StoresMade 56 room (append_fault area.now message.now room room)
+        (next_message (cells_in area.now) (word area.now))
+        (append_stores (cells_in area.now) (word area.now) message.now) result.answer result.stored result.at result.value }
 {
     let mut at = [0u32; 56];
     let mut value = [0u64; 56];
@@ -42,8 +42,8 @@ pub fn append_made(area: &[u8], message: &[u8], room: usize) -> AppendMade
 
 // A recovery for a list with this room.
 pub fn recovery_made(area: &[u8], room: usize) -> RecoveryMade
-    ensures result { StoresMade 1000 room (logRecoverFault area.now room room)
-        (highest (cells_in area.now) (word area.now)) (recoveryStores (cells_in area.now) (word area.now))
+    ensures result { StoresMade 1000 room (log_recover_fault area.now room room)
+        (highest (cells_in area.now) (word area.now)) (recovery_stores (cells_in area.now) (word area.now))
         result.answer result.stored result.at result.value }
 {
     let mut at = [0u32; 1000];

@@ -11,107 +11,107 @@ use lib.Dec.{ltb}
 use borrow.Author.Tests.{le-ltb, lt-ltb}
 use Rattle.prelude.specs.Answer.{refuses}
 use Rattle.prelude.specs.Members.{All, none_left, one_more}
-use Rattle.prelude.proofs.Any.{any_none, any-clear}
+use Rattle.prelude.proofs.Any.{any_none, any_clear}
 use Rattle.prelude.proofs.Choice.{split, true-false}
-use Rattle.prelude.proofs.Refusals.{taken-leaves, refused-keeps, by-refusal}
+use Rattle.prelude.proofs.Refusals.{taken_leaves, refused_keeps, by_refusal}
 use Rattle.words.specs.Word.{word}
-use Rattle.stores.specs.Store.{Store, played, standing, allStand, onLine}
-use Rattle.stores.proofs.defs.Cut.{StoresInside, nil-in, cons-in}
-use Rattle.stores.proofs.StandingStores.{on-miss}
-use Rattle.stores.proofs.AllStand.{stand-lines, lines-stand}
-use Rattle.log.specs.Area.{cells_in}
-use Rattle.log.specs.Append.{appendStores, appendFault}
-use Rattle.log.specs.Recover.{recoveryStores, logRecoverFault}
-use Rattle.log.specs.Event.{LogCall, an-append, a_read, a-recovery, logStores, areaDone, areaCut, Messages, expectedLogRefusal, isTorn, plainAppend, FitsCall}
-use Rattle.log.specs.Event.{append-fits, read_fits, recovery-fits}
-use Rattle.log.proofs.Inside.{accepted, append-inside-area, recovery-inside-area}
-use Rattle.log.proofs.Claims.{Keeping, cells-fine, recovery-right, call-right}
-use Rattle.log.proofs.Events.{done-keeps, done-last, done-closed-after, cut_keeps, cut-recovery-keeps, recovery-done-keeps, restart-closed, restart-last}
-use Rattle.log.proofs.LogRule.{Good, closed-by, closed_in, blank-good}
+use Rattle.stores.specs.Store.{Store, played, standing, all_stand, on_line}
+use Rattle.stores.proofs.defs.Cut.{StoresInside, nil_in, cons_in}
+use Rattle.stores.proofs.StandingStores.{on_miss}
+use Rattle.stores.proofs.AllStand.{stand_lines, lines_stand}
+use Rattle.message_log.specs.Area.{cells_in}
+use Rattle.message_log.specs.Append.{append_stores, append_fault}
+use Rattle.message_log.specs.Recover.{recovery_stores, log_recover_fault}
+use Rattle.message_log.specs.Event.{LogCall, an_append, a_read, a_recovery, log_stores, area_done, area_cut, Messages, expected_log_refusal, is_torn, plain_append, FitsCall}
+use Rattle.message_log.specs.Event.{append_fits, read_fits, recovery_fits}
+use Rattle.message_log.proofs.Inside.{accepted, append_inside_area, recovery_inside_area}
+use Rattle.message_log.proofs.Claims.{Keeping, cells_fine, recovery_right, call_right}
+use Rattle.message_log.proofs.Events.{done_keeps, done_last, done_closed_after, cut_keeps, cut_recovery_keeps, recovery_done_keeps, restart_closed, restart_last}
+use Rattle.message_log.proofs.LogRule.{Good, closed_by, closed_in, blank_good}
 use Rattle.restart_machine.proofs.defs.Laws.{Inside, Laws}
-use Rattle.restart_machine.proofs.RestartRule.{restart-rule}
-use Rattle.log_restart.specs.Log.{logLibrary, logPromise, LogRestartRule}
+use Rattle.restart_machine.proofs.RestartRule.{restart_rule}
+use Rattle.log_restart.specs.Log.{log_library, log_promise, LogRestartRule}
 
 -- ---- an append is torn where not all its stores stand
 
-off-line : (ss : List Store) (n k : ℕ) → All (λ (s : Store). s.word / 8 < n) ss → n ≤ k → length (onLine k ss) ≤ 0
-unfolding onLine
-off-line [] n k none_left h = omega arith
-off-line (s ∷ ss) n k (one_more p ps) h =
-    omega (arith, off-line ss n k ps h, ap (λ (t : List Store). length t) (on-miss k s ss (λ (e : s.word / 8 ≡ k). omega arith)))
+off_line : (ss : List Store) (n k : ℕ) → All (λ (s : Store). s.word / 8 < n) ss → n ≤ k → length (on_line k ss) ≤ 0
+unfolding on_line
+off_line [] n k none_left h = omega arith
+off_line (s ∷ ss) n k (one_more p ps) h =
+    omega (arith, off_line ss n k ps h, ap (λ (t : List Store). length t) (on_miss k s ss (λ (e : s.word / 8 ≡ k). omega arith)))
 
 module _ (counts : ℕ → ℕ) (ss : List Store) (n : ℕ) (below : All (λ (s : Store). s.word / 8 < n) ss) where
   abbrev short : ℕ → Bool
-  short k = ltb (counts k) (length (onLine k ss))
+  short k = ltb (counts k) (length (on_line k ss))
 
-  torn-stands : isTorn counts ss n ≡ not (allStand counts ss)
-  unfolding isTorn
-  torn-stands = go (allStand counts ss) refl (split (isTorn counts ss n))
+  torn_stands : is_torn counts ss n ≡ not (all_stand counts ss)
+  unfolding is_torn
+  torn_stands = go (all_stand counts ss) refl (split (is_torn counts ss n))
     where
-      each : isTorn counts ss n ≡ false → (k : ℕ) → length (onLine k ss) ≤ counts k
+      each : is_torn counts ss n ≡ false → (k : ℕ) → length (on_line k ss) ≤ counts k
       each e k =
           by_cases (dec_lt k n)
           (λ h.
-          by_cases (dec_lt (counts k) (length (onLine k ss)))
-          (λ q. absurd (true-false (lt-ltb (counts k) (length (onLine k ss)) q) (let z : k ≡ 0 + k = omega arith in ap short z ∙ any_none short 0 n e k h)))
+          by_cases (dec_lt (counts k) (length (on_line k ss)))
+          (λ q. absurd (true-false (lt-ltb (counts k) (length (on_line k ss)) q) (let z : k ≡ 0 + k = omega arith in ap short z ∙ any_none short 0 n e k h)))
           (λ q. omega arith))
-          (λ h. omega (arith, off-line ss n k below (omega arith)))
+          (λ h. omega (arith, off_line ss n k below (omega arith)))
 
-      go : (b : Bool) → allStand counts ss ≡ b → (isTorn counts ss n ≡ true) ⊎ (isTorn counts ss n ≡ false) → isTorn counts ss n ≡ not b
-      go true e t = any-clear short 0 n (λ i h. le-ltb (counts (0 + i)) (length (onLine (0 + i) ss)) (stand-lines counts ss e (0 + i)))
+      go : (b : Bool) → all_stand counts ss ≡ b → (is_torn counts ss n ≡ true) ⊎ (is_torn counts ss n ≡ false) → is_torn counts ss n ≡ not b
+      go true e t = any_clear short 0 n (λ i h. le-ltb (counts (0 + i)) (length (on_line (0 + i) ss)) (stand_lines counts ss e (0 + i)))
       go false e (inl t) = t
-      go false e (inr t) = absurd (true-false (lines-stand counts ss (each t)) e)
+      go false e (inr t) = absurd (true-false (lines_stand counts ss (each t)) e)
 
 -- and then the plain list stays as it is
-torn-plain : (torn stand is_refused : Bool) (call : LogCall) (log : Messages) → torn ≡ not stand
-    → plainAppend is_refused torn call log ≡ cond stand (plainAppend is_refused false call log) log
-unfolding plainAppend
-torn-plain torn true is_refused call log e = ap (λ (b : Bool). plainAppend is_refused b call log) e
-torn-plain torn false is_refused call log e = ap (λ (b : Bool). plainAppend is_refused b call log) e ∙ absent is_refused call
+torn_plain : (torn stand is_refused : Bool) (call : LogCall) (log : Messages) → torn ≡ not stand
+    → plain_append is_refused torn call log ≡ cond stand (plain_append is_refused false call log) log
+unfolding plain_append
+torn_plain torn true is_refused call log e = ap (λ (b : Bool). plain_append is_refused b call log) e
+torn_plain torn false is_refused call log e = ap (λ (b : Bool). plain_append is_refused b call log) e ∙ absent is_refused call
   where
-    absent : (is_refused : Bool) (call : LogCall) → plainAppend is_refused true call log ≡ log
-    absent true (an-append message at value) = refl
-    absent false (an-append message at value) = refl
+    absent : (is_refused : Bool) (call : LogCall) → plain_append is_refused true call log ≡ log
+    absent true (an_append message at value) = refl
+    absent false (an_append message at value) = refl
     absent is_refused (a_read number) = refl
-    absent is_refused (a-recovery at value) = refl
+    absent is_refused (a_recovery at value) = refl
 
 -- ---- the stores of a call are inside the area
 
 words_inside : (n : ℕ) (ss : List Store) → StoresInside n ss → Inside n ss
-words_inside n [] nil-in = none_left
-words_inside n (s ∷ ss) (cons-in p b r) = one_more p (words_inside n ss r)
+words_inside n [] nil_in = none_left
+words_inside n (s ∷ ss) (cons_in p b r) = one_more p (words_inside n ss r)
 
 module _ (cells : ℕ) (low : 2 ≤ cells) where
-  call-inside : (area : List ℕ) (log : Messages) → Keeping cells area log → (call : LogCall) → FitsCall call → StoresInside (length area) (logStores area call)
-  unfolding logStores
-  call-inside area log keep (an-append message at value) (append-fits are-bytes) =
-      let fault = appendFault area message (length at) (length value) in
+  call_inside : (area : List ℕ) (log : Messages) → Keeping cells area log → (call : LogCall) → FitsCall call → StoresInside (length area) (log_stores area call)
+  unfolding log_stores
+  call_inside area log keep (an_append message at value) (append_fits are-bytes) =
+      let fault = append_fault area message (length at) (length value) in
       by_cases (ℕ_discrete fault 0)
       (λ z.
-      subst (StoresInside (length area)) (sym (taken-leaves (appendStores (cells_in area) (word area) message) [] fault z))
-      (append-inside-area area message keep.bytes are-bytes (accepted area message (length at) (length value) z)))
-      (λ ne. subst (StoresInside (length area)) (sym (refused-keeps (appendStores (cells_in area) (word area) message) [] fault ne)) nil-in)
-  call-inside area log keep (a_read number) read_fits = nil-in
-  call-inside area log keep (a-recovery at value) recovery-fits =
-      by-refusal (StoresInside (length area)) (logRecoverFault area (length at) (length value)) (recoveryStores (cells_in area) (word area)) []
-      (recovery-inside-area area (cells-fine cells low area log keep.shows.size)) nil-in
+      subst (StoresInside (length area)) (sym (taken_leaves (append_stores (cells_in area) (word area) message) [] fault z))
+      (append_inside_area area message keep.bytes are-bytes (accepted area message (length at) (length value) z)))
+      (λ ne. subst (StoresInside (length area)) (sym (refused_keeps (append_stores (cells_in area) (word area) message) [] fault ne)) nil_in)
+  call_inside area log keep (a_read number) read_fits = nil_in
+  call_inside area log keep (a_recovery at value) recovery_fits =
+      by_refusal (StoresInside (length area)) (log_recover_fault area (length at) (length value)) (recovery_stores (cells_in area) (word area)) []
+      (recovery_inside_area area (cells_fine cells low area log keep.shows.size)) nil_in
 
-  lines-below : (area : List ℕ) (log : Messages) → Keeping cells area log → (ss : List Store) → StoresInside (length area) ss
+  lines_below : (area : List ℕ) (log : Messages) → Keeping cells area log → (ss : List Store) → StoresInside (length area) ss
       → All (λ (s : Store). s.word / 8 < 7 * cells_in area) ss
-  lines-below area log keep [] nil-in = none_left
-  lines-below area log keep (s ∷ ss) (cons-in p b r) =
-      one_more {x = s} (omega (arith, p, keep.size, keep.shows.size)) (lines-below area log keep ss r)
+  lines_below area log keep [] nil_in = none_left
+  lines_below area log keep (s ∷ ss) (cons_in p b r) =
+      one_more {x = s} (omega (arith, p, keep.size, keep.shows.size)) (lines_below area log keep ss r)
 
   -- any part of a call's stores
-  part-keeps : (area : List ℕ) (log : Messages) → Good cells area log → (call : LogCall) → FitsCall call → (counts : ℕ → ℕ)
-      → Keeping cells (played (standing counts (logStores area call)) area)
-      (cond (allStand counts (logStores area call)) (plainAppend (refuses (expectedLogRefusal area log call)) false call log) log)
-  unfolding areaCut
-  part-keeps area log good call fits counts =
-      subst (Keeping cells (played (standing counts (logStores area call)) area))
-      (torn-plain _ (allStand counts (logStores area call)) (refuses (expectedLogRefusal area log call)) call log
-      (torn-stands counts (logStores area call) (7 * cells_in area)
-      (lines-below area log good.keep (logStores area call) (call-inside area log good.keep call fits))))
+  part_keeps : (area : List ℕ) (log : Messages) → Good cells area log → (call : LogCall) → FitsCall call → (counts : ℕ → ℕ)
+      → Keeping cells (played (standing counts (log_stores area call)) area)
+      (cond (all_stand counts (log_stores area call)) (plain_append (refuses (expected_log_refusal area log call)) false call log) log)
+  unfolding area_cut
+  part_keeps area log good call fits counts =
+      subst (Keeping cells (played (standing counts (log_stores area call)) area))
+      (torn_plain _ (all_stand counts (log_stores area call)) (refuses (expected_log_refusal area log call)) call log
+      (torn_stands counts (log_stores area call) (7 * cells_in area)
+      (lines_below area log good.keep (log_stores area call) (call_inside area log good.keep call fits))))
       (cut_keeps cells low area log good.keep call counts fits (closed_in cells low area log good))
 
   -- an area in use, with what the program holds
@@ -119,40 +119,40 @@ module _ (cells : ℕ) (low : 2 ≤ cells) where
   InUse area held log = Good cells area log × (held ≡ length log)
 
   -- THE LAWS of the log as a library of the machine
-  library-laws : Laws (logLibrary cells) (logPromise cells) (Keeping cells) InUse
-  unfolding areaCut areaDone
-  library-laws =
+  library_laws : Laws (log_library cells) (log_promise cells) (Keeping cells) InUse
+  unfolding area_cut area_done
+  library_laws =
       record {
         recovers = λ area log keep. keep.shows;
-        recovery-right = λ area log keep lent. recovery-right cells low area log keep lent.at lent.value;
-        recovery-inside = λ area log keep lent.
-            words_inside (length area) _ (call-inside area log keep (a-recovery lent.at lent.value) recovery-fits);
-        recovery-part = λ area log keep lent counts.
-            cut-recovery-keeps cells low area log keep (record { at = lent.at; value = lent.value; counts = counts });
-        recovery-done = λ area log keep lent. (
+        recovery_right = λ area log keep lent. recovery_right cells low area log keep lent.at lent.value;
+        recovery_inside = λ area log keep lent.
+            words_inside (length area) _ (call_inside area log keep (a_recovery lent.at lent.value) recovery_fits);
+        recovery_part = λ area log keep lent counts.
+            cut_recovery_keeps cells low area log keep (record { at = lent.at; value = lent.value; counts = counts });
+        recovery_done = λ area log keep lent. (
           record {
-            keep = recovery-done-keeps cells low area log keep lent.at lent.value;
+            keep = recovery_done_keeps cells low area log keep lent.at lent.value;
             closed =
-                closed-by cells low area _ log keep (restart-closed cells low area log keep lent.at lent.value lent.enough.0 lent.enough.1);
+                closed_by cells low area _ log keep (restart_closed cells low area log keep lent.at lent.value lent.enough.0 lent.enough.1);
           },
-          restart-last cells low area log keep 0 lent.at lent.value lent.enough.0 lent.enough.1,
+          restart_last cells low area log keep 0 lent.at lent.value lent.enough.0 lent.enough.1,
         );
-        use-ready = λ area held log good. good.0.keep;
-        request-right = λ area held log good asked. call-right cells low area log good.0.keep held good.1 asked.call asked.fits;
-        request-inside = λ area held log good asked. words_inside (length area) _ (call-inside area log good.0.keep asked.call asked.fits);
-        request-part = λ area held log good asked counts. part-keeps area log good.0 asked.call asked.fits counts;
-        request-done = λ area held log good asked.
+        use_ready = λ area held log good. good.0.keep;
+        request_right = λ area held log good asked. call_right cells low area log good.0.keep held good.1 asked.call asked.fits;
+        request_inside = λ area held log good asked. words_inside (length area) _ (call_inside area log good.0.keep asked.call asked.fits);
+        request_part = λ area held log good asked counts. part_keeps area log good.0 asked.call asked.fits counts;
+        request_done = λ area held log good asked.
             let closed = closed_in cells low area log good.0 in (
               record {
-                keep = done-keeps cells low area log good.0.keep asked.call asked.fits closed;
+                keep = done_keeps cells low area log good.0.keep asked.call asked.fits closed;
                 closed =
-                    closed-by cells low area _ log good.0.keep (done-closed-after cells low area log good.0.keep asked.call asked.fits closed);
+                    closed_by cells low area _ log good.0.keep (done_closed_after cells low area log good.0.keep asked.call asked.fits closed);
               },
-              done-last cells low area log good.0.keep asked.call asked.fits closed held good.1,
+              done_last cells low area log good.0.keep asked.call asked.fits closed held good.1,
             );
       }
 
 -- THE RESTART RULE OF THE LOG
-pub log-restart-rule : LogRestartRule
-log-restart-rule cells low high d done =
-    restart-rule (logPromise cells) (logLibrary cells) _ _ (library-laws cells low) d done _ [] (blank-good cells low high).keep
+pub log_restart_rule : LogRestartRule
+log_restart_rule cells low high d done =
+    restart_rule (log_promise cells) (log_library cells) _ _ (library_laws cells low) d done _ [] (blank_good cells low high).keep

@@ -2,9 +2,9 @@
 ghost use Rattle.std.specs.Prelude.{◌≡◌, ℕ, ◌+◌, ◌*◌, ◌≤◌, ◌<◌, ◌^◌, length};
 ghost use Rattle.words.specs.Word.{word};
 ghost use Rattle.stores.specs.Written.{marked, run};
-ghost use Rattle.log.specs.LogOutcome.{shortFault};
-ghost use Rattle.log.specs.Append.{messageLine, markedBody, payloadsFrom, messageStores};
-ghost use Rattle.log.specs.inner.Needs.{Filled, MarkedRoom, LineRoom, PayloadRoom, MessageRoom};
+ghost use Rattle.message_log.specs.LogOutcome.{short_fault};
+ghost use Rattle.message_log.specs.Append.{message_line, marked_body, payloads_from, message_stores};
+ghost use Rattle.message_log.specs.inner.Needs.{Filled, MarkedRoom, LineRoom, PayloadRoom, MessageRoom};
 
 use layout_line_code::line::{first_word, last_word};
 use log_cell_code::bit::{differing_word, store_count};
@@ -12,7 +12,7 @@ use words_code::{padded_word, read_word};
 
 // 13 where a list is shorter than the stores, else 0.
 pub fn short_fault(count: usize, ats: usize, vals: usize) -> u32
-    ensures result { result ≡ shortFault count ats vals }
+    ensures result { result ≡ short_fault count ats vals }
 {
     if ats < count {
         return 13;
@@ -26,7 +26,7 @@ pub fn short_fault(count: usize, ats: usize, vals: usize) -> u32
 // Word i of the marked line of a message, over a line with this stamp.
 fn marked_word(stamp: u64, number: u64, size: usize, pairs: u64, i: usize) -> u64
     requires { number < 2 ^ 63 }
-    ensures { result ≡ marked stamp number (markedBody size pairs) i }
+    ensures { result ≡ marked stamp number (marked_body size pairs) i }
 {
     if i == 0 {
         return first_word(stamp);
@@ -55,7 +55,7 @@ fn fill_marked(
 )
     requires { MarkedRoom (length at.old) (length value.old) c number }
     ensures { Filled at.old value.old at.new value.new 0
-        (run (8 * (7 * c)) (marked stamp number (markedBody size pairs)) 0 8) }
+        (run (8 * (7 * c)) (marked stamp number (marked_body size pairs)) 0 8) }
 {
     let mut j = 0;
     while j < 8 {
@@ -78,7 +78,7 @@ fn fill_line(
 )
     requires { LineRoom (length at.old) (length value.old) from n i count }
     ensures { Filled at.old value.old at.new value.new from
-        (run (8 * n) (messageLine message.now i) 0 count) }
+        (run (8 * n) (message_line message.now i) 0 count) }
 {
     let mut j = 0;
     while j < count {
@@ -93,7 +93,7 @@ fn fill_line(
 fn fill_payload(area: &[u8], message: &[u8], at: &mut [u32], value: &mut [u64], c: usize)
     requires { PayloadRoom area.now message.now c (length at.old) (length value.old) }
     ensures { Filled at.old value.old at.new value.new 8
-        (payloadsFrom (word area.now) c message.now 0 6) }
+        (payloads_from (word area.now) c message.now 0 6) }
 {
     let mut k = 8;
     let mut i = 0;
@@ -118,7 +118,7 @@ pub fn fill_message(
 )
     requires { MessageRoom area.now message.now c number pairs (length at.old) (length value.old) }
     ensures result { Filled at.old value.old at.new value.new 0
-        (messageStores (word area.now) c number message.now) }
+        (message_stores (word area.now) c number message.now) }
 {
     let stamp = read_word(area, 8 * (7 * c) + 7);
     fill_marked(at, value, c, stamp, number, message.len(), pairs);

@@ -1,8 +1,8 @@
 // The stores of the log's recovery: one for each whole marked line above the highest complete number, which opens it.
 ghost use Rattle.std.specs.Prelude.{◌≡◌, ℕ, ◌+◌, ◌*◌, ◌≤◌, length};
 ghost use Rattle.words.specs.Word.{word};
-ghost use Rattle.log.specs.Recover.{isAbove, invalidations};
-ghost use Rattle.log.specs.inner.Needs.{CellCount, Filled, InvalidationRoom, InvalidationsRoom};
+ghost use Rattle.message_log.specs.Recover.{is_above, invalidations};
+ghost use Rattle.message_log.specs.inner.Needs.{CellCount, Filled, InvalidationRoom, InvalidationsRoom};
 
 use layout_line_code::line::first_word;
 use words_code::read_word;
@@ -10,7 +10,7 @@ use words_code::read_word;
 // Is the marked line of cell c whole and above this number?
 fn is_above(area: &[u8], top: u64, c: usize) -> bool
     requires { 448 * (c + 1) ≤ length area.now }
-    ensures { result ≡ isAbove (word area.now) top c }
+    ensures { result ≡ is_above (word area.now) top c }
 {
     let stamp = read_word(area, 8 * (7 * c) + 7);
     if read_word(area, 8 * (7 * c)) != stamp % 2 {

@@ -1,17 +1,17 @@
 // The plan of an append, which only reads.
 ghost use Rattle.std.specs.Prelude.{◌≡◌, ℕ, suc, ◌+◌, ◌*◌, ◌≤◌, length};
-ghost use Rattle.layout.specs.Line.{versionFault};
-ghost use Rattle.log.specs.Append.{messageFault};
-ghost use Rattle.log.specs.inner.Needs.{PayloadPlanned, AppendPlanned};
+ghost use Rattle.layout.specs.Line.{version_fault};
+ghost use Rattle.message_log.specs.Append.{message_fault};
+ghost use Rattle.message_log.specs.inner.Needs.{PayloadPlanned, AppendPlanned};
 
 use crate::filling::short_fault;
-use log::{AppendPlan, Payload};
+use message_log::{AppendPlan, Payload};
 use log_cell_code::bit::{differing_word, line_pair, store_count};
 use log_cell_code::cells::cell_count;
 
 // 29 where a message of this size is empty or over 384 bytes, else 0.
 fn message_fault(size: usize) -> u32
-    ensures { result ≡ messageFault size }
+    ensures { result ≡ message_fault size }
 {
     if size == 0 {
         return 29;
@@ -56,7 +56,7 @@ fn no_plan(fault: u32) -> AppendPlan
 
 // 9 where the number above this one is not below 2^63, else 0. The sum is not made: any number is lent.
 fn number_fault(last: u64) -> u32
-    ensures { result ≡ versionFault (suc last) }
+    ensures { result ≡ version_fault (suc last) }
 {
     if 9223372036854775807 <= last {
         return 9;

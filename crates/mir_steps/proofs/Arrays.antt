@@ -31,16 +31,16 @@ abbrev pub LentArray : (w : Width) → Lft → List ℕ → ℕ → Fml
 LentArray w κ xs b = flent κ ((arr_parts (shares (UInt w)) (length xs)).part full_share xs b 0)
 
 -- the cell of a local array
-abbrev pub arrayCell : (w : Width) → ℕ → List ℕ → ℕ → Fml
-arrayCell w n xs b = cell_at full_share (ty_array (ty_int w) n ∷ []) (array_vals (uint_vals w) xs) b 0
+abbrev pub array_cell : (w : Width) → ℕ → List ℕ → ℕ → Fml
+array_cell w n xs b = cell_at full_share (ty_array (ty_int w) n ∷ []) (array_vals (uint_vals w) xs) b 0
 
 module _ {M : Type 1} {𝓤 : Ura M} {𝓛 : Logic 𝓤} {K : Type 0} {Γ : List (Item 𝓤)} {G : Goal 𝓤 𝓛.H} where
-  pub array-lent : K → Soaks G → (w : Width) (n : ℕ) (xs : List ℕ) (b : ℕ) (κ : Lft) → Is (Array (UInt w) n) xs (array_vals (uint_vals w) xs)
+  pub array_lent : K → Soaks G → (w : Width) (n : ℕ) (xs : List ℕ) (b : ℕ) (κ : Lft) → Is (Array (UInt w) n) xs (array_vals (uint_vals w) xs)
       → Room (UInt w) (length xs)
       → ((γ : GName) → Seq K 𝓛 (‵ (OwnsShr (UInt w) κ b 0 γ xs (slice_val (b, 0) (length xs) ∷ [])) ∷ ‵ (LentArray w κ xs b) ∷ Γ) G)
-      → Seq K 𝓛 (‵ (arrayCell w n xs b) ∷ Γ) G
+      → Seq K 𝓛 (‵ (array_cell w n xs b) ∷ Γ) G
   unfolding part_of
-  array-lent t z w n xs b κ is room k =
+  array_lent t z w n xs b κ is room k =
       owned t (Array (UInt w) n) (Is (Array (UInt w) n)) (Array-Makes 𝓛 (UInt w) (uint_Makes 𝓛 w) n) xs (array_vals (uint_vals w) xs) is $ move t
       (1 ∷ 0 ∷ []) $ fjoin t $
       fpack t (List Val) (λ us. fsep (cell_at full_share (ty_array (ty_int w) n ∷ []) us b 0) ((Array (UInt w) n).own_val xs us)) (array_vals (uint_vals w) xs) $
@@ -51,7 +51,7 @@ module _ {M : Type 1} {𝓤 : Ura M} {𝓛 : Logic 𝓤} {K : Type 0} {Γ : List
       await t z $ pick t (λ γ. split t $ k γ)
 
   pub array_back : K → Soaks G → (w : Width) (n : ℕ) (xs : List ℕ) (b : ℕ) (κ : Lft) → length xs ≡ n
-      → Step K 𝓛 (‵ (arrayCell w n xs b) ∷ Γ) G (‵ (fdead κ) ∷ ‵ (LentArray w κ xs b) ∷ Γ) G
+      → Step K 𝓛 (‵ (array_cell w n xs b) ∷ Γ) G (‵ (fdead κ) ∷ ‵ (LentArray w κ xs b) ∷ Γ) G
   unfolding part_of
   array_back t z w n xs b κ e = step (λ s. lent_back t z $ rewrite t 0 (λ (m : ℕ). ‵ ((arr_parts (shares (UInt w)) m).part full_share xs b 0)) e refl $
       use1 𝓛 (‵ (part_at (Array (UInt w) n) full_share xs b 0)) (Array-whole 𝓛 (UInt w) full_share n xs b 0) $ fpick t (λ vs. fsplit t $

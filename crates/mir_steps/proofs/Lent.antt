@@ -40,8 +40,8 @@ abbrev pub number : (w : Width) → Element (UInt w)
 number w = record { vals = uint_vals w; tells = uint_Tells w; copies = λ 𝓛. uint_copy 𝓛 w }
 
 -- the offset of element i of n, each of s bytes, fits a usize
-pub offset-fits : (s i n : ℕ) → i < n → n * s < 2 ^ 63 → i * s < 2 ^ 64
-offset-fits s i n l g = lt_of_le_of_lt (mul-le-mul_right s (le_of_lt l)) (lt_of_lt_of_le g (omega arith))
+pub offset_fits : (s i n : ℕ) → i < n → n * s < 2 ^ 63 → i * s < 2 ^ 64
+offset_fits s i n l g = lt_of_le_of_lt (mul-le-mul_right s (le_of_lt l)) (lt_of_lt_of_le g (omega arith))
 
 -- the reference at (b, o) under γ, at the list l
 abbrev pub lent_at : (R : RattleType) → ℕ → ℕ → GName → List R.Denot → MutBor (List R.Denot)
@@ -65,8 +65,8 @@ Shuts R κ q q' ys b o = fobor κ q ((arr_parts (shares R) (length ys)).part q' 
 
 module _ {M : Type 1} {𝓤 : Ura M} {𝓛 : Logic 𝓤} {K : Type 0} {Γ : List (Item 𝓤)} {G : Goal 𝓤 𝓛.H} where
   -- what a number owns is had for nothing
-  pub number-owned : K → (w : Width) (n : ℕ) → n < 2 ^ bits w → Step K 𝓛 (‵ ((UInt w).own_val n (vint w n ∷ [])) ∷ Γ) G Γ G
-  number-owned t w n fits = owned t (UInt w) (Is (UInt w)) (uint_Makes 𝓛 w) n (vint w n ∷ []) (refl, fits)
+  pub number_owned : K → (w : Width) (n : ℕ) → n < 2 ^ bits w → Step K 𝓛 (‵ ((UInt w).own_val n (vint w n ∷ [])) ∷ Γ) G Γ G
+  number_owned t w n fits = owned t (UInt w) (Is (UInt w)) (uint_Makes 𝓛 w) n (vint w n ∷ []) (refl, fits)
 
   -- what is had at exit of n parameters of which nothing is asked, after the last that is asked for
   pub dropped : K → (n : ℕ) → Step K 𝓛 (‵ (trues n) ∷ Γ) G Γ G
@@ -89,9 +89,9 @@ module _ {M : Type 1} {𝓤 : Ura M} {𝓛 : Logic 𝓤} {K : Type 0} {Γ : List
       (ap (λ (m : ℕ). slice_val (b, o) m ∷ []) (sym e), subst (Room R) (sym e) room) $ fjoin t $ s)
 
   -- a `&mut [T]` is given up for what says its last list
-  pub given-up : K → (R : RattleType) (κ : Lft) (ys : List R.Denot) (γ : GName) (b o : ℕ) {vs : List Val}
+  pub given_up : K → (R : RattleType) (κ : Lft) (ys : List R.Denot) (γ : GName) (b o : ℕ) {vs : List Val}
       → Step K 𝓛 (‵ (finally R γ ys) ∷ Γ) G (‵ (OwnsMut R κ b o γ ys vs) ∷ Γ) G
-  given-up t R κ ys γ b o =
+  given_up t R κ ys γ b o =
       step (λ s. fsplit t $ drop t $ fsplit t $ use1 𝓛 (‵ (fres γ ((coded_holeys R).code (heres R ys)))) (𝓛.names.obs-res γ ((coded_holeys R).code (heres R ys)))
       $
       use1 𝓛 (‵ (finally R γ ys)) (res-finally 𝓛 erased κ R γ ys) $ move t (1 ∷ []) $ drop t $ s)

@@ -20,9 +20,9 @@ abbrev pub Blocks : List Local → Type 0
 Blocks [] = Unit {0}
 Blocks (l ∷ ls) = ℕ × Blocks ls
 
-abbrev pub envOf : {M : Type 1} (𝓤 : Ura M) (H : Heap 𝓤) (ls : List Local) → Blocks ls → Env 𝓤 H
-envOf 𝓤 H [] bs = []
-envOf 𝓤 H (local τ h ∷ ls) bs = (τ, bs.0) ∷ envOf 𝓤 H ls bs.1
+abbrev pub env_of : {M : Type 1} (𝓤 : Ura M) (H : Heap 𝓤) (ls : List Local) → Blocks ls → Env 𝓤 H
+env_of 𝓤 H [] bs = []
+env_of 𝓤 H (local τ h ∷ ls) bs = (τ, bs.0) ∷ env_of 𝓤 H ls bs.1
 
 -- where local k lies
 abbrev pub block : (ls : List Local) → Blocks ls → ℕ → ℕ
@@ -88,8 +88,8 @@ module _ {M : Type 1} {𝓤 : Ura M} (𝓛 : Logic 𝓤) where
       (via 𝓤 (sep 𝓤 (mean 𝓛 i) (⋆ 𝓛 (Δ ++ Γ))) (mono_r 𝓤 (mean 𝓛 i) (++⊢ 𝓛 Δ Γ))
       (push 𝓛 i (Δ ++ Γ)))))))
 
-  two-before : (i j : Item 𝓤) (Δ Γ : List (Item 𝓤)) → ent 𝓤 (⋆ 𝓛 (Δ ++ (i ∷ j ∷ Γ))) (⋆ 𝓛 (i ∷ j ∷ (Δ ++ Γ)))
-  two-before i j Δ Γ =
+  two_before : (i j : Item 𝓤) (Δ Γ : List (Item 𝓤)) → ent 𝓤 (⋆ 𝓛 (Δ ++ (i ∷ j ∷ Γ))) (⋆ 𝓛 (i ∷ j ∷ (Δ ++ Γ)))
+  two_before i j Δ Γ =
       via 𝓤 (⋆ 𝓛 (i ∷ (Δ ++ (j ∷ Γ)))) (before i Δ (j ∷ Γ))
       (via 𝓤 (sep 𝓤 (mean 𝓛 i) (⋆ 𝓛 (Δ ++ (j ∷ Γ)))) (pop 𝓛 i (Δ ++ (j ∷ Γ)))
       (via 𝓤 (sep 𝓤 (mean 𝓛 i) (⋆ 𝓛 (j ∷ (Δ ++ Γ)))) (mono_r 𝓤 (mean 𝓛 i) (before j Δ Γ))
@@ -108,14 +108,14 @@ module _ {M : Type 1} {𝓤 : Ura M} {𝓛 : Logic 𝓤} {K : Type 0} where
 
   -- all locals are allocated, and hold nothing
   pub allocates : K → (ls : List Local) {Γ : List (Item 𝓤)} {Kt : Env 𝓤 H → Goal 𝓤 H}
-      → ((bs : Blocks ls) → Seq K 𝓛 (Frame 𝓤 ls bs [] ++ Γ) (Kt (envOf 𝓤 H ls bs))) → Seq K 𝓛 Γ (allocs ls Kt)
+      → ((bs : Blocks ls) → Seq K 𝓛 (Frame 𝓤 ls bs [] ++ Γ) (Kt (env_of 𝓤 H ls bs))) → Seq K 𝓛 Γ (allocs ls Kt)
   allocates t [] k = alloc0 t $ k tt
   allocates t (local τ h ∷ ls) {Γ} {Kt} k = alloc1 t (λ b. allocates t ls {Γ = ‵ (froom τ b 0) ∷ ‵ (fdies τ b) ∷ Γ} {Kt = λ E. Kt ((τ, b) ∷ E)}
-      (λ bs. record { prf = via 𝓤 _ (two-before 𝓛 (‵ (froom τ b 0)) (‵ (fdies τ b)) (Frame 𝓤 ls bs []) Γ) (k (b, bs)).prf }))
+      (λ bs. record { prf = via 𝓤 _ (two_before 𝓛 (‵ (froom τ b 0)) (‵ (fdies τ b)) (Frame 𝓤 ls bs []) Γ) (k (b, bs)).prf }))
 
   -- all locals are freed, whatever they hold
   pub freed : K → (ls : List Local) (bs : Blocks ls) (ms : List (Option Val)) {Γ : List (Item 𝓤)} {g : Goal 𝓤 H}
-      → Step K 𝓛 Γ g (Frame 𝓤 ls bs ms ++ Γ) (frees (envOf 𝓤 H ls bs) g)
+      → Step K 𝓛 Γ g (Frame 𝓤 ls bs ms ++ Γ) (frees (env_of 𝓤 H ls bs) g)
   freed t [] bs ms = free0 t
   freed t (local τ h ∷ ls) bs [] = step (λ s. free1 t $ freed t ls bs.1 [] $ s)
   freed t (local τ h ∷ ls) bs (none ∷ ms) = step (λ s. free1 t $ freed t ls bs.1 ms $ s)

@@ -30,8 +30,8 @@ Upto n = (i : ℕ) × (i ≤ n)
 abbrev pub Nearer : (n : ℕ) → Upto n → Upto n → Type 0
 Nearer n j i = n - j.0 < n - i.0
 
-pub nearer-wf : (n : ℕ) → WellFounded (Nearer n)
-nearer-wf n = InvImage.wf (λ (i : Upto n). n - i.0) lt-wf_rel.wf
+pub nearer_wf : (n : ℕ) → WellFounded (Nearer n)
+nearer_wf n = InvImage.wf (λ (i : Upto n). n - i.0) lt-wf_rel.wf
 
 abbrev pub next : (n : ℕ) (i : Upto n) → i.0 < n → Upto n
 next n i more = (i.0 + 1, add-one-le more)

@@ -1,7 +1,7 @@
 // Count the slots in layout 2.
 ghost use Rattle.std.specs.Prelude.{◌≡◌};
-ghost use Rattle.interface.specs.Set.{countResult};
-ghost use Rattle.exports.specs.Count.{countLeft, countCall};
+ghost use Rattle.interface.specs.Set.{count_result};
+ghost use Rattle.exports.specs.Count.{count_left, count_call};
 
 use exports_answer_code::count::write_answer_counted;
 use orderset::count_slots2;
@@ -15,8 +15,8 @@ pub extern "C" fn orderset2_proved_count_slots(
     next: &mut [u32],
     counts: &mut [u64; 6],
 ) -> u64
-    ensures result { countLeft result counts.new heads.new next.new
-        ≡ countCall (countResult 2 image.now heads.old next.old) counts.old }
+    ensures result { count_left result counts.new heads.new next.new
+        ≡ count_call (count_result 2 image.now heads.old next.old) counts.old }
 {
     let answer = count_slots2(image, heads, next);
     write_answer_counted(answer, counts)

@@ -1,7 +1,7 @@
 // Get in layout 2.
 ghost use Rattle.std.specs.Prelude.{◌≡◌};
-ghost use Rattle.interface.specs.Set.{keyWith, getResult};
-ghost use Rattle.exports.specs.Call.{get_left, getCall};
+ghost use Rattle.interface.specs.Set.{key_with, get_result};
+ghost use Rattle.exports.specs.Call.{get_left, get_call};
 
 use exports_answer_code::answer::write_answer_got;
 use orderset::get2;
@@ -18,7 +18,7 @@ pub extern "C" fn orderset2_proved_get(
     answer: &mut [u64; 3],
 ) -> u64
     ensures result { get_left result answer.new out.new
-        ≡ getCall (getResult 2 image.now heads.now next.now (keyWith low high) out.old)
+        ≡ get_call (get_result 2 image.now heads.now next.now (key_with low high) out.old)
         answer.old }
 {
     let got = get2(image, heads, next, low, high, out);

@@ -1,7 +1,7 @@
 // Locate in layout 2.
 ghost use Rattle.std.specs.Prelude.{◌≡◌};
-ghost use Rattle.interface.specs.Set.{keyWith, locateResult};
-ghost use Rattle.exports.specs.Call.{locateLeft, locateCall};
+ghost use Rattle.interface.specs.Set.{key_with, locate_result};
+ghost use Rattle.exports.specs.Call.{locate_left, locate_call};
 
 use exports_answer_code::answer::write_answer_located;
 use orderset::locate2;
@@ -16,8 +16,8 @@ pub extern "C" fn orderset2_proved_locate(
     high: u64,
     answer: &mut [u64; 4],
 ) -> u64
-    ensures result { locateLeft result answer.new
-        ≡ locateCall (locateResult 2 image.now heads.now next.now (keyWith low high)) answer.old }
+    ensures result { locate_left result answer.new
+        ≡ locate_call (locate_result 2 image.now heads.now next.now (key_with low high)) answer.old }
 {
     let located = locate2(image, heads, next, low, high);
     write_answer_located(located, answer)

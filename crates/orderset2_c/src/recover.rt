@@ -1,9 +1,9 @@
 // Recover in layout 2.
 ghost use Rattle.std.specs.Prelude.{◌≡◌};
-ghost use Rattle.interface.specs.Set.{recoverResult};
-ghost use Rattle.exports.specs.State.{stateFrom};
-ghost use Rattle.exports.specs.Invalidation.{invalidationsFrom};
-ghost use Rattle.exports.specs.Call.{recoverLeft, recoverCall};
+ghost use Rattle.interface.specs.Set.{recover_result};
+ghost use Rattle.exports.specs.State.{state_from};
+ghost use Rattle.exports.specs.Invalidation.{invalidations_from};
+ghost use Rattle.exports.specs.Call.{recover_left, recover_call};
 
 use exports_answer_code::recover::write_answer_recovered;
 use orderset::recover2;
@@ -21,10 +21,10 @@ pub extern "C" fn orderset2_proved_recover(
     at: &mut [u32; 8],
     value: &mut [u64; 8],
 ) -> u64
-    ensures result { recoverLeft result (stateFrom state.new version.new)
-        (invalidationsFrom count.new at.new value.new) heads.new next.new
-        ≡ recoverCall (recoverResult 2 image.now heads.old next.old)
-        (stateFrom state.old version.old) (invalidationsFrom count.old at.old value.old) }
+    ensures result { recover_left result (state_from state.new version.new)
+        (invalidations_from count.new at.new value.new) heads.new next.new
+        ≡ recover_call (recover_result 2 image.now heads.old next.old)
+        (state_from state.old version.old) (invalidations_from count.old at.old value.old) }
 {
     let answer = recover2(image, heads, next);
     write_answer_recovered(answer, state, version, count, at, value)

@@ -1,8 +1,8 @@
 // Insert in layout 2, for a program in C, C++ or Rust.
 ghost use Rattle.std.specs.Prelude.{◌≡◌};
-ghost use Rattle.interface.specs.Set.{zipped, Insert, keyWith, writeResult, index_of};
-ghost use Rattle.exports.specs.State.{stateFrom};
-ghost use Rattle.exports.specs.Call.{changeLeft, changeCall};
+ghost use Rattle.interface.specs.Set.{zipped, Insert, key_with, write_result, index_of};
+ghost use Rattle.exports.specs.State.{state_from};
+ghost use Rattle.exports.specs.Call.{change_left, change_call};
 
 use exports_write_code::write::write_call;
 use orderset::Mode;
@@ -23,11 +23,11 @@ pub extern "C" fn orderset2_proved_insert(
     value: &mut [u64; 16],
     answer: &mut [u64; 4],
 ) -> u64
-    ensures result { changeLeft result answer.new (stateFrom state.new version.new)
+    ensures result { change_left result answer.new (state_from state.new version.new)
         (zipped at.new value.new) heads.new next.new
-        ≡ changeCall
-        (writeResult 2 image.now (index_of heads.old next.old (stateFrom state.old version.old))
-        Insert (keyWith low high) bytes.now)
+        ≡ change_call
+        (write_result 2 image.now (index_of heads.old next.old (state_from state.old version.old))
+        Insert (key_with low high) bytes.now)
         answer.old (zipped at.old value.old) }
 {
     write_call(

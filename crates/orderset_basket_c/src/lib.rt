@@ -1,8 +1,8 @@
 // A basket in layout 1, for a program in C, C++ or Rust.
 ghost use Rattle.std.specs.Prelude.{◌≡◌, length, replicate};
-ghost use Rattle.interface.specs.Set.{buffersAfterLists, changesOf, basketResult, index_of};
-ghost use Rattle.exports.specs.State.{stateFrom};
-ghost use Rattle.exports.specs.Basket.{keysAsked, givenItems, basketCallLeft, basketCall};
+ghost use Rattle.interface.specs.Set.{buffers_after_lists, changes_of, basket_result, index_of};
+ghost use Rattle.exports.specs.State.{state_from};
+ghost use Rattle.exports.specs.Basket.{keys_asked, given_items, basket_call_left, basket_call};
 
 use exports_basket_code::basket::basket_call;
 
@@ -25,13 +25,13 @@ pub extern "C" fn orderset_proved_basket(
     value: &mut [u64],
     answer: &mut [u64; 9],
 ) -> u32
-    ensures result { basketCallLeft result answer.new (stateFrom state.new version.new) at.new
+    ensures result { basket_call_left result answer.new (state_from state.new version.new) at.new
         value.new heads.new next.new
-        ≡ basketCall
-        (buffersAfterLists at.old value.old
-        (basketResult 1 image.now (index_of heads.old next.old (stateFrom state.old version.old))
-        (changesOf 1 (keysAsked count kinds.now)
-        (givenItems kinds.now keys.now (replicate 8 0) lengths.now) values.now)
+        ≡ basket_call
+        (buffers_after_lists at.old value.old
+        (basket_result 1 image.now (index_of heads.old next.old (state_from state.old version.old))
+        (changes_of 1 (keys_asked count kinds.now)
+        (given_items kinds.now keys.now (replicate 8 0) lengths.now) values.now)
         (length at.old) (length value.old)))
         answer.old }
 {

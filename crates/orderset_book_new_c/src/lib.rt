@@ -1,10 +1,10 @@
 // A new order in layout 1, for a program in C, C++ or Rust.
 ghost use Rattle.std.specs.Prelude.{◌≡◌};
 ghost use Rattle.interface.specs.Set.{zipped, index_of};
-ghost use Rattle.book.specs.Steps.{newResult};
-ghost use Rattle.exports.specs.State.{stateFrom};
-ghost use Rattle.exports.specs.Call.{changeLeft};
-ghost use Rattle.exports.specs.Book.{bookCall};
+ghost use Rattle.book.specs.Steps.{new_result};
+ghost use Rattle.exports.specs.State.{state_from};
+ghost use Rattle.exports.specs.Call.{change_left};
+ghost use Rattle.exports.specs.Book.{book_call};
 
 use exports_book_code::steps::new_call;
 
@@ -23,10 +23,10 @@ pub extern "C" fn orderset_proved_book_new(
     value: &mut [u64; 16],
     answer: &mut [u64; 3],
 ) -> u32
-    ensures result { changeLeft result answer.new (stateFrom state.new version.new)
+    ensures result { change_left result answer.new (state_from state.new version.new)
         (zipped at.new value.new) heads.new next.new
-        ≡ bookCall
-        (newResult 1 image.now (index_of heads.old next.old (stateFrom state.old version.old))
+        ≡ book_call
+        (new_result 1 image.now (index_of heads.old next.old (state_from state.old version.old))
         key quantity)
         answer.old (zipped at.old value.old) }
 {

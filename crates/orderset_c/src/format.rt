@@ -1,7 +1,7 @@
 // Format.
 ghost use Rattle.std.specs.Prelude.{◌≡◌};
-ghost use Rattle.interface.specs.Set.{formatResult};
-ghost use Rattle.exports.specs.Call.{formatLeft, formatCall};
+ghost use Rattle.interface.specs.Set.{format_result};
+ghost use Rattle.exports.specs.Call.{format_left, format_call};
 
 use exports_code::format::write_answer_formatted;
 use orderset::format;
@@ -13,8 +13,8 @@ pub extern "C" fn orderset_proved_format(
     layout: u64,
     answer: &mut [u64; 2],
 ) -> u32
-    ensures result { formatLeft result answer.new image.new
-        ≡ formatCall (formatResult layout image.old) answer.old }
+    ensures result { format_left result answer.new image.new
+        ≡ format_call (format_result layout image.old) answer.old }
 {
     let formatted = format(image, layout);
     write_answer_formatted(formatted, answer)

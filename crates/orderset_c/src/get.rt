@@ -1,7 +1,7 @@
 // Get.
 ghost use Rattle.std.specs.Prelude.{◌≡◌};
-ghost use Rattle.interface.specs.Set.{getResult};
-ghost use Rattle.exports.specs.Call.{get_left, getCall};
+ghost use Rattle.interface.specs.Set.{get_result};
+ghost use Rattle.exports.specs.Call.{get_left, get_call};
 
 use exports_answer_code::answer::write_answer_got;
 use orderset::get;
@@ -17,7 +17,7 @@ pub extern "C" fn orderset_proved_get(
     answer: &mut [u64; 3],
 ) -> u64
     ensures result { get_left result answer.new out.new
-        ≡ getCall (getResult 1 image.now heads.now next.now key out.old) answer.old }
+        ≡ get_call (get_result 1 image.now heads.now next.now key out.old) answer.old }
 {
     let got = get(image, heads, next, key, out);
     write_answer_got(got, answer)

@@ -1,7 +1,7 @@
 // Locate.
 ghost use Rattle.std.specs.Prelude.{◌≡◌};
-ghost use Rattle.interface.specs.Set.{locateResult};
-ghost use Rattle.exports.specs.Call.{locateLeft, locateCall};
+ghost use Rattle.interface.specs.Set.{locate_result};
+ghost use Rattle.exports.specs.Call.{locate_left, locate_call};
 
 use exports_answer_code::answer::write_answer_located;
 use orderset::locate;
@@ -15,8 +15,8 @@ pub extern "C" fn orderset_proved_locate(
     key: u64,
     answer: &mut [u64; 4],
 ) -> u64
-    ensures result { locateLeft result answer.new
-        ≡ locateCall (locateResult 1 image.now heads.now next.now key) answer.old }
+    ensures result { locate_left result answer.new
+        ≡ locate_call (locate_result 1 image.now heads.now next.now key) answer.old }
 {
     let located = locate(image, heads, next, key);
     write_answer_located(located, answer)

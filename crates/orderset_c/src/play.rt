@@ -1,6 +1,6 @@
 // Play, with two counts and of a list.
 ghost use Rattle.std.specs.Prelude.{◌≡◌};
-ghost use Rattle.interface.specs.Set.{playEnd, playResult, playListResult};
+ghost use Rattle.interface.specs.Set.{play_end, play_result, play_list_result};
 
 use exports_code::play::play_lent;
 use orderset::play_list;
@@ -14,7 +14,7 @@ pub extern "C" fn orderset_proved_play(
     a: usize,
     b: usize,
 ) -> u32
-    ensures result { playEnd result image.new ≡ playResult image.old at.now value.now a b }
+    ensures result { play_end result image.new ≡ play_result image.old at.now value.now a b }
 {
     play_lent(image, at, value, a, b)
 }
@@ -22,7 +22,7 @@ pub extern "C" fn orderset_proved_play(
 // All stores of a list are made, in order.
 #[unsafe(no_mangle)]
 pub extern "C" fn orderset_proved_play_list(image: &mut [u8], at: &[u32], value: &[u64]) -> u32
-    ensures result { playEnd result image.new ≡ playListResult image.old at.now value.now }
+    ensures result { play_end result image.new ≡ play_list_result image.old at.now value.now }
 {
     play_list(image, at, value)
 }

@@ -1,8 +1,8 @@
 // Insert in layout 1, for a program in C, C++ or Rust.
 ghost use Rattle.std.specs.Prelude.{◌≡◌};
-ghost use Rattle.interface.specs.Set.{zipped, Insert, writeResult, index_of};
-ghost use Rattle.exports.specs.State.{stateFrom};
-ghost use Rattle.exports.specs.Call.{changeLeft, changeCall};
+ghost use Rattle.interface.specs.Set.{zipped, Insert, write_result, index_of};
+ghost use Rattle.exports.specs.State.{state_from};
+ghost use Rattle.exports.specs.Call.{change_left, change_call};
 
 use exports_write_code::write::write_call;
 use orderset::Mode;
@@ -22,10 +22,10 @@ pub extern "C" fn orderset_proved_insert(
     value: &mut [u64; 16],
     answer: &mut [u64; 4],
 ) -> u64
-    ensures result { changeLeft result answer.new (stateFrom state.new version.new)
+    ensures result { change_left result answer.new (state_from state.new version.new)
         (zipped at.new value.new) heads.new next.new
-        ≡ changeCall
-        (writeResult 1 image.now (index_of heads.old next.old (stateFrom state.old version.old))
+        ≡ change_call
+        (write_result 1 image.now (index_of heads.old next.old (state_from state.old version.old))
         Insert key bytes.now)
         answer.old (zipped at.old value.old) }
 {

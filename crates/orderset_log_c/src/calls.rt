@@ -1,9 +1,9 @@
 // Append, append_after, recover and read.
 ghost use Rattle.std.specs.Prelude.{◌≡◌};
-ghost use Rattle.log.specs.Append.{appendAfterResult, appendResult};
-ghost use Rattle.log.specs.Recover.{logRecoverResult};
-ghost use Rattle.log.specs.Read.{partResult};
-ghost use Rattle.log_exports.specs.Call.{handLeft, handCall, partLeft, partCall};
+ghost use Rattle.message_log.specs.Append.{append_after_result, append_result};
+ghost use Rattle.message_log.specs.Recover.{log_recover_result};
+ghost use Rattle.message_log.specs.Read.{part_result};
+ghost use Rattle.log_exports.specs.Call.{hand_left, hand_call, part_left, part_call};
 
 use log_code::{LogOutcome, Part, append, append_after, find, recover_log};
 
@@ -17,8 +17,8 @@ pub extern "C" fn orderset_proved_log_append(
     value: &mut [u64],
     answer: &mut [u64; 2],
 ) -> u32
-    ensures result { handLeft result answer.new at.new value.new
-        ≡ handCall (appendResult area.now message.now at.old value.old) answer.old }
+    ensures result { hand_left result answer.new at.new value.new
+        ≡ hand_call (append_result area.now message.now at.old value.old) answer.old }
 {
     let handed = append(area, message, at, value);
     match handed {
@@ -40,8 +40,8 @@ pub extern "C" fn orderset_proved_log_append_after(
     value: &mut [u64],
     answer: &mut [u64; 2],
 ) -> u32
-    ensures result { handLeft result answer.new at.new value.new
-        ≡ handCall (appendAfterResult area.now last message.now at.old value.old) answer.old }
+    ensures result { hand_left result answer.new at.new value.new
+        ≡ hand_call (append_after_result area.now last message.now at.old value.old) answer.old }
 {
     let handed = append_after(area, last, message, at, value);
     match handed {
@@ -64,8 +64,8 @@ pub extern "C" fn orderset_proved_log_recover(
     value: &mut [u64],
     answer: &mut [u64; 2],
 ) -> u32
-    ensures result { handLeft result answer.new at.new value.new
-        ≡ handCall (logRecoverResult area.now at.old value.old) answer.old }
+    ensures result { hand_left result answer.new at.new value.new
+        ≡ hand_call (log_recover_result area.now at.old value.old) answer.old }
 {
     let handed = recover_log(area, at, value);
     match handed {
@@ -80,7 +80,7 @@ pub extern "C" fn orderset_proved_log_recover(
 // The message with this number; the answer is the byte of the area at which it starts and its length.
 #[unsafe(no_mangle)]
 pub extern "C" fn orderset_proved_log_read(area: &[u8], number: u64, answer: &mut [u64; 2]) -> u32
-    ensures result { partLeft result answer.new ≡ partCall (partResult area.now number) answer.old }
+    ensures result { part_left result answer.new ≡ part_call (part_result area.now number) answer.old }
 {
     let part = find(area, number);
     match part {

@@ -2,10 +2,10 @@
 // since, for a program in C, C++ or Rust. It is no call of document 01; the answer is that of the step without `own`.
 ghost use Rattle.std.specs.Prelude.{◌≡◌, true};
 ghost use Rattle.interface.specs.Set.{zipped, index_of};
-ghost use Rattle.book.specs.Steps.{acknowledgeResultBy};
-ghost use Rattle.exports.specs.State.{stateFrom};
-ghost use Rattle.exports.specs.Call.{changeLeft};
-ghost use Rattle.exports.specs.Book.{bookCall};
+ghost use Rattle.book.specs.Steps.{acknowledge_result_by};
+ghost use Rattle.exports.specs.State.{state_from};
+ghost use Rattle.exports.specs.Call.{change_left};
+ghost use Rattle.exports.specs.Book.{book_call};
 
 use exports_book_code::steps::acknowledge_call;
 
@@ -23,11 +23,11 @@ pub extern "C" fn orderset_proved_own_book_acknowledge(
     value: &mut [u64; 16],
     answer: &mut [u64; 3],
 ) -> u32
-    ensures result { changeLeft result answer.new (stateFrom state.new version.new)
+    ensures result { change_left result answer.new (state_from state.new version.new)
         (zipped at.new value.new) heads.new next.new
-        ≡ bookCall
-        (acknowledgeResultBy true 1 image.now
-        (index_of heads.old next.old (stateFrom state.old version.old)) key)
+        ≡ book_call
+        (acknowledge_result_by true 1 image.now
+        (index_of heads.old next.old (state_from state.old version.old)) key)
         answer.old (zipped at.old value.old) }
 {
     acknowledge_call(

@@ -1,9 +1,9 @@
 // Remove in layout 1 for the owner of an index, that is, of an index from recovery and the accepted calls since, for a
 // program in C, C++ or Rust. It is no call of document 01; the answer is that of the call without `own`.
 ghost use Rattle.std.specs.Prelude.{◌≡◌, true};
-ghost use Rattle.interface.specs.Set.{zipped, removeResultBy, index_of};
-ghost use Rattle.exports.specs.State.{stateFrom};
-ghost use Rattle.exports.specs.Call.{changeLeft, changeCall};
+ghost use Rattle.interface.specs.Set.{zipped, remove_result_by, index_of};
+ghost use Rattle.exports.specs.State.{state_from};
+ghost use Rattle.exports.specs.Call.{change_left, change_call};
 
 use exports_write_code::write::remove_call;
 
@@ -21,11 +21,11 @@ pub extern "C" fn orderset_proved_own_remove(
     value: &mut [u64; 16],
     answer: &mut [u64; 4],
 ) -> u64
-    ensures result { changeLeft result answer.new (stateFrom state.new version.new)
+    ensures result { change_left result answer.new (state_from state.new version.new)
         (zipped at.new value.new) heads.new next.new
-        ≡ changeCall
-        (removeResultBy true 1 image.now
-        (index_of heads.old next.old (stateFrom state.old version.old)) key)
+        ≡ change_call
+        (remove_result_by true 1 image.now
+        (index_of heads.old next.old (state_from state.old version.old)) key)
         answer.old (zipped at.old value.old) }
 {
     remove_call(

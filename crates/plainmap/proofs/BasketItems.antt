@@ -11,62 +11,62 @@ use Rattle.words.specs.Word.{AreBytes}
 use Rattle.prelude.specs.Members.{All, none_left, one_more}
 use Rattle.prelude.specs.Range.{tabulate}
 use Rattle.prelude.proofs.Choice.{split}
-use Rattle.layout.specs.Record.{Layout, keyWith}
-use Rattle.calls.specs.BasketItems.{highIn, itemKey, item_at, itemValue, changeAt, changesFrom, changesOf}
+use Rattle.layout.specs.Record.{Layout, key_with}
+use Rattle.calls.specs.BasketItems.{high_in, item_key, item_at, item_value, change_at, changes_from, changes_of}
 use Rattle.calls.specs.declared.BasketItem.{BasketItem}
 use Rattle.plainmap.specs.Baskets.{TypedItem, TypedChange}
 
 -- a list of bytes
-bytes-tabulated : (f : ℕ → ℕ) → ((i : ℕ) → f i < 256) → (k n : ℕ) → AreBytes (tabulate f k n)
+bytes_tabulated : (f : ℕ → ℕ) → ((i : ℕ) → f i < 256) → (k n : ℕ) → AreBytes (tabulate f k n)
 unfolding tabulate
-bytes-tabulated f h k zero i = omega arith
-bytes-tabulated f h k (suc n) zero = h k
-bytes-tabulated f h k (suc n) (suc i) = bytes-tabulated f h (suc k) n i
+bytes_tabulated f h k zero i = omega arith
+bytes_tabulated f h k (suc n) zero = h k
+bytes_tabulated f h k (suc n) (suc i) = bytes_tabulated f h (suc k) n i
 
 -- the item with number i, given or not
-item-typed : (items : List BasketItem) → All TypedItem items → (i : ℕ) → TypedItem (item_at items i)
+item_typed : (items : List BasketItem) → All TypedItem items → (i : ℕ) → TypedItem (item_at items i)
 unfolding item_at
-item-typed [] none_left i = record { low_word = omega arith; high_word = omega arith }
-item-typed (k ∷ items) (one_more t ts) zero = t
-item-typed (k ∷ items) (one_more t ts) (suc i) = item-typed items ts i
+item_typed [] none_left i = record { low_word = omega arith; high_word = omega arith }
+item_typed (k ∷ items) (one_more t ts) zero = t
+item_typed (k ∷ items) (one_more t ts) (suc i) = item_typed items ts i
 
 -- a key of one word, and one of two
-one_word : (l low high : ℕ) → l ≡ 1 → low < 2 ^ 64 → high ≡ 0 → keyWith low high < (2 ^ 64) ^ l
+one_word : (l low high : ℕ) → l ≡ 1 → low < 2 ^ 64 → high ≡ 0 → key_with low high < (2 ^ 64) ^ l
 one_word l low high e h z = rw e (omega arith)
 
-below-square : (b low high : ℕ) → low < b → high < b → low + b * high < b * b
-below-square b low high h k = omega (arith, h, mul-le-mul_left b k)
+below_square : (b low high : ℕ) → low < b → high < b → low + b * high < b * b
+below_square b low high h k = omega (arith, h, mul-le-mul_left b k)
 
-two-words : (l low high : ℕ) → l ≡ 2 → low < 2 ^ 64 → high < 2 ^ 64 → keyWith low high < (2 ^ 64) ^ l
-two-words l low high e h k = rw e (below-square (2 ^ 64) low high h k)
+two_words : (l low high : ℕ) → l ≡ 2 → low < 2 ^ 64 → high < 2 ^ 64 → key_with low high < (2 ^ 64) ^ l
+two_words l low high e h k = rw e (below_square (2 ^ 64) low high h k)
 
-other-layout : (l : ℕ) → Layout l → (l ≡ 1 → ⊥) → l ≡ 2
-other-layout l lay ne = omega (arith, lay.low, lay.high, ne)
+other_layout : (l : ℕ) → Layout l → (l ≡ 1 → ⊥) → l ≡ 2
+other_layout l lay ne = omega (arith, lay.low, lay.high, ne)
 
 module _ (l : ℕ) (lay : Layout l) where
-  key-typed : (k : BasketItem) → TypedItem k → itemKey l k < (2 ^ 64) ^ l
-  unfolding itemKey highIn
-  key-typed k t = go (eqb l 1) refl
+  key_typed : (k : BasketItem) → TypedItem k → item_key l k < (2 ^ 64) ^ l
+  unfolding item_key high_in
+  key_typed k t = go (eqb l 1) refl
     where
-      go : (b : Bool) → eqb l 1 ≡ b → keyWith k.low (cond b 0 k.high) < (2 ^ 64) ^ l
+      go : (b : Bool) → eqb l 1 ≡ b → key_with k.low (cond b 0 k.high) < (2 ^ 64) ^ l
       go true e = one_word l k.low 0 (eqb-true l 1 e) t.low_word refl
-      go false e = two-words l k.low k.high (other-layout l lay (eqb-false l 1 e)) t.low_word t.high_word
+      go false e = two_words l k.low k.high (other_layout l lay (eqb-false l 1 e)) t.low_word t.high_word
 
   module _ (items : List BasketItem) (values : List ℕ) (fit : All TypedItem items) (bytes : AreBytes values) where
-    change-typed : (i : ℕ) → TypedChange l (changeAt l items values i)
-    unfolding changeAt itemValue
-    change-typed i =
+    change_typed : (i : ℕ) → TypedChange l (change_at l items values i)
+    unfolding change_at item_value
+    change_typed i =
         record {
-          key_fits = key-typed (item_at items i) (item-typed items fit i);
-          bytes = bytes-tabulated _ (λ k. bytes (80 * i + k)) 0 (item_at items i).length;
+          key_fits = key_typed (item_at items i) (item_typed items fit i);
+          bytes = bytes_tabulated _ (λ k. bytes (80 * i + k)) 0 (item_at items i).length;
         }
 
-    from-typed : (i n : ℕ) → All (TypedChange l) (changesFrom l items values i n)
-    unfolding changesFrom
-    from-typed i zero = none_left
-    from-typed i (suc n) = one_more (change-typed i) (from-typed (suc i) n)
+    from_typed : (i n : ℕ) → All (TypedChange l) (changes_from l items values i n)
+    unfolding changes_from
+    from_typed i zero = none_left
+    from_typed i (suc n) = one_more (change_typed i) (from_typed (suc i) n)
 
     -- WHAT THE ITEMS ASK is typed
-    pub changes-typed : (count : ℕ) → All (TypedChange l) (changesOf l count items values)
-    unfolding changesOf
-    changes-typed count = from-typed 0 count
+    pub changes_typed : (count : ℕ) → All (TypedChange l) (changes_of l count items values)
+    unfolding changes_of
+    changes_typed count = from_typed 0 count

@@ -5,68 +5,68 @@ use Prim.Native.Nat.{ℕ, ◌+◌, ◌^◌, ◌<◌}
 use lib.ListN.{length}
 use Rattle.words.specs.Word.{word}
 use Rattle.prelude.specs.Members.{All}
-use Rattle.prelude.proofs.defs.Answer.{isRefusal}
-use Rattle.layout.specs.Size.{slotsIn}
-use Rattle.layout.specs.Content.{contentsOf, sizeFieldsOf}
-use Rattle.stores.specs.Basket.{BasketRecord, basketSlots, basketStores}
+use Rattle.prelude.proofs.defs.Answer.{is_refusal}
+use Rattle.layout.specs.Size.{slots_in}
+use Rattle.layout.specs.Content.{contents_of, size_fields_of}
+use Rattle.stores.specs.Basket.{BasketRecord, basket_slots, basket_stores}
 use Rattle.stores.specs.Cut.{LawfulRecord}
-use Rattle.table.specs.Table.{mapOf, liveCount, nextVersion}
-use Rattle.table.specs.Complete.{table_of, sizeFieldFor}
-use Rattle.table.proofs.defs.Basket.{Basket, HeldRemoved, putsIn, heldIn, changes}
+use Rattle.table.specs.Table.{map_of, live_count, next_version}
+use Rattle.table.specs.Complete.{table_of, size_field_for}
+use Rattle.table.proofs.defs.Basket.{Basket, HeldRemoved, puts_in, held_in, changes}
 use Rattle.table.proofs.defs.Struck.{Struck, Finished}
 use Rattle.table.proofs.defs.ReuseAfter.{BrokenTaken}
-use Rattle.index.specs.Index.{Index, Chain, withCounts}
-use Rattle.table.proofs.defs.Entries.{recordAt}
+use Rattle.index.specs.Index.{Index, Chain, with_counts}
+use Rattle.table.proofs.defs.Entries.{record_at}
 use Rattle.calls.specs.Result.{CallResult}
 use Rattle.plainmap.specs.World.{World}
-use Rattle.plainmap.specs.Plain.{Update, plainStep}
-use Rattle.plainmap.specs.Claims.{slotsMap}
+use Rattle.plainmap.specs.Plain.{Update, plain_step}
+use Rattle.plainmap.specs.Claims.{slots_map}
 use Rattle.plainmap.specs.Consistency.{IndexConsistent}
 
 -- the world with image' that a call with this result leaves
-abbrev pub worldWith : (image' : List ℕ) → CallResult → World
-worldWith image' r = record { image = image'; index = r.index }
+abbrev pub world_with : (image' : List ℕ) → CallResult → World
+world_with image' r = record { image = image'; index = r.index }
 
 -- a sound index of this world, whatever its chains
 pub data SomeSound (l : ℕ) (w : World) : Type 0 where
-  some-sound : (chains : Chain → List ℕ) → IndexConsistent l w chains → SomeSound l w
+  some_sound : (chains : Chain → List ℕ) → IndexConsistent l w chains → SomeSound l w
 
 -- the next version of an image
 abbrev pub next_of : (l : ℕ) → (image : List ℕ) → ℕ
-next_of l image = nextVersion (table_of l image) (slotsIn image)
+next_of l image = next_version (table_of l image) (slots_in image)
 
 -- a call wrote these records, and left this index with a live count and the first slot taken
 pub record WroteRecords (l : ℕ) (w : World) (es : List BasketRecord) (i : Index) (alive newest : ℕ) : Type 0 where
-  pub lawful : All (LawfulRecord l (word w.image) (sizeFieldFor (length es)) (next_of l w.image)) es
+  pub lawful : All (LawfulRecord l (word w.image) (size_field_for (length es)) (next_of l w.image)) es
   pub small : next_of l w.image < 2 ^ 63
   pub basket :
-      Basket (contentsOf l w.image) (sizeFieldsOf l w.image) (slotsIn w.image) (next_of l w.image) (basketSlots es)
-      (recordAt (next_of l w.image) es)
+      Basket (contents_of l w.image) (size_fields_of l w.image) (slots_in w.image) (next_of l w.image) (basket_slots es)
+      (record_at (next_of l w.image) es)
   -- "A broken slot is always reused first"
-  pub broken : BrokenTaken (contentsOf l w.image) (slotsIn w.image) (basketSlots es)
+  pub broken : BrokenTaken (contents_of l w.image) (slots_in w.image) (basket_slots es)
   -- a slot will be left that is not live
   pub room :
-      liveCount (contentsOf l w.image) (slotsIn w.image) + putsIn (basketSlots es) (recordAt (next_of l w.image) es) <
-      slotsIn w.image + heldIn (basketSlots es) (recordAt (next_of l w.image) es) (mapOf (contentsOf l w.image) (slotsIn w.image))
+      live_count (contents_of l w.image) (slots_in w.image) + puts_in (basket_slots es) (record_at (next_of l w.image) es) <
+      slots_in w.image + held_in (basket_slots es) (record_at (next_of l w.image) es) (map_of (contents_of l w.image) (slots_in w.image))
   -- only a held key is removed
-  pub removes : HeldRemoved (basketSlots es) (recordAt (next_of l w.image) es) (mapOf (contentsOf l w.image) (slotsIn w.image))
+  pub removes : HeldRemoved (basket_slots es) (record_at (next_of l w.image) es) (map_of (contents_of l w.image) (slots_in w.image))
   pub sound :
-      (image' : List ℕ) → slotsIn image' ≡ slotsIn w.image
-      → Struck (contentsOf l w.image) (contentsOf l image') (sizeFieldsOf l w.image) (sizeFieldsOf l image') (slotsIn w.image) (basketSlots es)
-      (recordAt (next_of l w.image) es)
-      → Finished (contentsOf l image') (sizeFieldsOf l image') (basketSlots es) (recordAt (next_of l w.image) es)
-      → SomeSound l (record { image = image'; index = withCounts i alive (w.index.state.version + 1) newest })
+      (image' : List ℕ) → slots_in image' ≡ slots_in w.image
+      → Struck (contents_of l w.image) (contents_of l image') (size_fields_of l w.image) (size_fields_of l image') (slots_in w.image) (basket_slots es)
+      (record_at (next_of l w.image) es)
+      → Finished (contents_of l image') (size_fields_of l image') (basket_slots es) (record_at (next_of l w.image) es)
+      → SomeSound l (record { image = image'; index = with_counts i alive (w.index.state.version + 1) newest })
 
 -- what a call does: it stores nothing and the plain map stays, or it writes records, which is the plain map's step
 pub data Stepped (l : ℕ) (w : World) (us : List Update) (r : CallResult) : Type 0 where
-  stored-none : r.stores ≡ [] → SomeSound l (worldWith w.image r)
-      → ((k : ℕ) → slotsMap l w.image k ≡ plainStep us (isRefusal r.answer) (slotsMap l w.image) k)
+  stored_none : r.stores ≡ [] → SomeSound l (world_with w.image r)
+      → ((k : ℕ) → slots_map l w.image k ≡ plain_step us (is_refusal r.answer) (slots_map l w.image) k)
       → Stepped l w us r
-  stored-records : (es : List BasketRecord) (i : Index) (alive newest : ℕ)
-      → r.stores ≡ basketStores l (word w.image) (sizeFieldFor (length es)) (next_of l w.image) es
-      → ((image' : List ℕ) → worldWith image' r ≡
-      record { image = image'; index = withCounts i alive (w.index.state.version + 1) newest })
+  stored_records : (es : List BasketRecord) (i : Index) (alive newest : ℕ)
+      → r.stores ≡ basket_stores l (word w.image) (size_field_for (length es)) (next_of l w.image) es
+      → ((image' : List ℕ) → world_with image' r ≡
+      record { image = image'; index = with_counts i alive (w.index.state.version + 1) newest })
       → WroteRecords l w es i alive newest
-      → ((k : ℕ) → changes (basketSlots es) (recordAt (next_of l w.image) es) (slotsMap l w.image) k ≡
-      plainStep us (isRefusal r.answer) (slotsMap l w.image) k)
+      → ((k : ℕ) → changes (basket_slots es) (record_at (next_of l w.image) es) (slots_map l w.image) k ≡
+      plain_step us (is_refusal r.answer) (slots_map l w.image) k)
       → Stepped l w us r

@@ -1,19 +1,19 @@
 -- An index that is the image's own. Document 01, "The index", and the order of reuse that keeps a withdrawn order from
 -- returning.
 use Rattle.std.specs.Prelude.{◌≡◌, List, ◌∷◌, ℕ, length}
-use Rattle.table.specs.Table.{liveCount, nextVersion}
+use Rattle.table.specs.Table.{live_count, next_version}
 use Rattle.table.specs.Reuse.{OlderFirst, HighestLast, BrokenFirst}
 use Rattle.table.specs.Takeable.{IsNewest}
 use Rattle.index.specs.Index.{Chain, reuse}
 use Rattle.index.specs.Linked.{ChainsPartition}
 use Rattle.recovery.specs.Recover.{place_of}
 use Rattle.plainmap.specs.World.{World}
-use Rattle.layout.specs.Size.{slotsIn}
-use Rattle.layout.specs.Content.{contentsOf, sizeFieldsOf}
+use Rattle.layout.specs.Size.{slots_in}
+use Rattle.layout.specs.Content.{contents_of, size_fields_of}
 use Rattle.table.specs.Complete.{table_of, NoneVoid}
 use Rattle.plainmap.specs.Accepted.{RightSize, Accepted}
 use Rattle.plainmap.specs.Plain.{PlainMap}
-use Rattle.plainmap.specs.Claims.{slotsMap}
+use Rattle.plainmap.specs.Claims.{slots_map}
 
 -- a list that is not empty
 pub data Starts (xs : List ℕ) : Type 0 where
@@ -25,26 +25,26 @@ pub record IndexConsistent (l : ℕ) (w : World) (chains : Chain → List ℕ) :
   -- along the links go `chains`; each slot stands in just one of them and once: a live slot in that of its key's head,
   -- any other in reuse
   pub index :
-      ChainsPartition (slotsIn w.image) (length w.index.heads) (place_of (table_of l w.image) (slotsIn w.image) (length w.index.heads))
+      ChainsPartition (slots_in w.image) (length w.index.heads) (place_of (table_of l w.image) (slots_in w.image) (length w.index.heads))
       w.index chains
   -- in reuse no older record of its key stands after a remove record
   pub older : OlderFirst (table_of l w.image) (chains reuse)
   -- its first slot is of the highest valid version only where all are
-  pub highest : HighestLast (table_of l w.image) (slotsIn w.image) (chains reuse)
+  pub highest : HighestLast (table_of l w.image) (slots_in w.image) (chains reuse)
   -- document 02, A.6: "A broken slot is always reused first"
   pub broken : BrokenFirst (table_of l w.image) (chains reuse)
   -- reuse is not empty
-  pub some-spare : Starts (chains reuse)
-  pub live-count : w.index.state.live ≡ liveCount (table_of l w.image) (slotsIn w.image)
-  pub next-version : w.index.state.version ≡ nextVersion (table_of l w.image) (slotsIn w.image)
+  pub some_spare : Starts (chains reuse)
+  pub live-count : w.index.state.live ≡ live_count (table_of l w.image) (slots_in w.image)
+  pub next-version : w.index.state.version ≡ next_version (table_of l w.image) (slots_in w.image)
   -- the state names a slot of the highest valid version
-  pub newest : IsNewest (table_of l w.image) (slotsIn w.image) w.index.state.newest
+  pub newest : IsNewest (table_of l w.image) (slots_in w.image) w.index.state.newest
 
 -- the image is accepted and no record in it is void, the index is its own, and the map of its slots is m
 pub record Refines (l : ℕ) (w : World) (m : PlainMap) : Type 0 where
   pub accepted : Accepted l w.image
   -- recovery's invalidating stores "are played and fenced before any other call"
-  pub none-void : NoneVoid (contentsOf l w.image) (sizeFieldsOf l w.image) (slotsIn w.image)
+  pub none_void : NoneVoid (contents_of l w.image) (size_fields_of l w.image) (slots_in w.image)
   pub chains : Chain → List ℕ
   pub consistent : IndexConsistent l w chains
-  pub map : (k : ℕ) → slotsMap l w.image k ≡ m k
+  pub map : (k : ℕ) → slots_map l w.image k ≡ m k

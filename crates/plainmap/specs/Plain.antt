@@ -1,12 +1,12 @@
 -- The plain map. Document 01, "The plain map and the cut rule".
 use Rattle.std.specs.Prelude.{Bool, cond, List, [], ◌∷◌, ◌++◌, ℕ, ◌+◌, eqb, ltb, leb, length, drop}
 use Rattle.std.proofs.Math.Option.{Option, some, none}
-use Rattle.prelude.specs.Refusal.{refuseIf, or_else}
+use Rattle.prelude.specs.Refusal.{refuse_if, or_else}
 use Rattle.prelude.specs.Answer.{Answer, gives, absent}
 use Rattle.layout.specs.Record.{limit}
 use Rattle.table.specs.Table.{is_held}
-use Rattle.layout.specs.Line.{versionFault}
-use Rattle.index.specs.Change.{insertsOf, keyFault}
+use Rattle.layout.specs.Line.{version_fault}
+use Rattle.index.specs.Change.{inserts_of, key_fault}
 use Rattle.plainmap.specs.World.{Call, write, remove, get, locate}
 
 -- "Its state is a set of keys with a value each, perhaps of 0 bytes"
@@ -32,13 +32,13 @@ updated (giving key value) m k = cond (eqb k key) (some value) (m k)
 updated (dropping key) m k = cond (eqb k key) none (m k)
 
 -- all updates, in their order
-unfoldable pub plainNext : List Update → PlainMap → PlainMap
-plainNext [] m = m
-plainNext (u ∷ us) m = plainNext us (updated u m)
+unfoldable pub plain_next : List Update → PlainMap → PlainMap
+plain_next [] m = m
+plain_next (u ∷ us) m = plain_next us (updated u m)
 
 -- "A refused call changes nothing"; is_refused is "whether these rules refuse it"
-unfoldable pub plainStep : List Update → (is_refused : Bool) → PlainMap → PlainMap
-plainStep us is_refused m = cond is_refused m (plainNext us m)
+unfoldable pub plain_step : List Update → (is_refused : Bool) → PlainMap → PlainMap
+plain_step us is_refused m = cond is_refused m (plain_next us m)
 
 -- ---- what a call answers, by the plain map before it
 
@@ -57,24 +57,24 @@ pub record Room : Type 0 where
 
 -- document 02, A.7: "28 when too few slots may be taken or, by the live count, no spare slot would be left, in place of
 -- 12 as the rule on room, before 9"
-unfoldable pub roomRule : Room → (wanted inserts removes : ℕ) → ℕ
-roomRule r wanted inserts removes =
-    refuseIf (ltb r.takeable wanted) 28
-    (refuseIf (leb (r.slots + removes) (r.held + inserts)) 28 (versionFault r.version))
+unfoldable pub room_rule : Room → (wanted inserts removes : ℕ) → ℕ
+room_rule r wanted inserts removes =
+    refuse_if (ltb r.takeable wanted) 28
+    (refuse_if (leb (r.slots + removes) (r.held + inserts)) 28 (version_fault r.version))
 
 -- where the rules refuse a call on an image with its own index: an insert with 10, 20, 28 or 9, a replace with 10, 21,
 -- 28 or 9, a remove with 28 or 9, a get with 13, a locate never
-unfoldable pub ruleFault : (l : ℕ) → Room → PlainMap → Call → ℕ
-ruleFault l r m (write mode key value) =
-    refuseIf (ltb (limit l) (length value)) 10 (or_else (keyFault mode (is_held (m key))) (roomRule r 1 (insertsOf mode) 0))
-ruleFault l r m (remove key) = cond (is_held (m key)) (roomRule r 1 0 1) 0
-ruleFault l r m (get key out) = refuseIf (ltb (length out) (size_of (m key))) 13 0
-ruleFault l r m (locate key) = 0
+unfoldable pub rule_fault : (l : ℕ) → Room → PlainMap → Call → ℕ
+rule_fault l r m (write mode key value) =
+    refuse_if (ltb (limit l) (length value)) 10 (or_else (key_fault mode (is_held (m key))) (room_rule r 1 (inserts_of mode) 0))
+rule_fault l r m (remove key) = cond (is_held (m key)) (room_rule r 1 0 1) 0
+rule_fault l r m (get key out) = refuse_if (ltb (length out) (size_of (m key))) 13 0
+rule_fault l r m (locate key) = 0
 
 -- "A get answers the value and its length, or absent"
-unfoldable pub lengthAnswer : Option (List ℕ) → Answer
-lengthAnswer none = absent
-lengthAnswer (some value) = gives (length value ∷ [])
+unfoldable pub length_answer : Option (List ℕ) → Answer
+length_answer none = absent
+length_answer (some value) = gives (length value ∷ [])
 
 -- the output after a get: "the value fills the front of the output and the bytes after it keep what they had"
 unfoldable pub filled : Option (List ℕ) → (out : List ℕ) → List ℕ
@@ -84,15 +84,15 @@ filled (some value) out = value ++ drop (length value) out
 -- a call that is not refused: insert, replace and remove answer the slot taken and the version; "A remove drops a held
 -- key; for another it answers absent". A locate answers the slot that holds the key and its version: `holder` gives
 -- both
-unfoldable pub plainAnswer : (slot version : ℕ) → (holder : ℕ → List ℕ) → PlainMap → Call → Answer
-plainAnswer slot version holder m (write mode key value) = gives (slot ∷ version ∷ [])
-plainAnswer slot version holder m (remove key) = cond (is_held (m key)) (gives (slot ∷ version ∷ [])) absent
-plainAnswer slot version holder m (get key out) = lengthAnswer (m key)
-plainAnswer slot version holder m (locate key) = cond (is_held (m key)) (gives (holder key)) absent
+unfoldable pub plain_answer : (slot version : ℕ) → (holder : ℕ → List ℕ) → PlainMap → Call → Answer
+plain_answer slot version holder m (write mode key value) = gives (slot ∷ version ∷ [])
+plain_answer slot version holder m (remove key) = cond (is_held (m key)) (gives (slot ∷ version ∷ [])) absent
+plain_answer slot version holder m (get key out) = length_answer (m key)
+plain_answer slot version holder m (locate key) = cond (is_held (m key)) (gives (holder key)) absent
 
 -- the output that a call leaves; a get alone has one
-unfoldable pub plainOut : PlainMap → Call → List ℕ
-plainOut m (write mode key value) = []
-plainOut m (remove key) = []
-plainOut m (get key out) = filled (m key) out
-plainOut m (locate key) = []
+unfoldable pub plain_out : PlainMap → Call → List ℕ
+plain_out m (write mode key value) = []
+plain_out m (remove key) = []
+plain_out m (get key out) = filled (m key) out
+plain_out m (locate key) = []

@@ -2,8 +2,8 @@
 // on standard output, with how many of its 81 cuts leave the earlier map and how many the later. Each second a line on
 // standard error says how far it is.
 ghost use Rattle.std.specs.Prelude.{◌≡◌, true, not, length, ◌==◌};
-ghost use Rattle.session.specs.Stream.{streamEnd, afterRead};
-ghost use Rattle.trace.specs.Step.{traceResult};
+ghost use Rattle.session.specs.Stream.{stream_end, after_read};
+ghost use Rattle.trace.specs.Step.{trace_result};
 
 use console::{Status, after_byte, flush};
 use libc::STDIN_FILENO;
@@ -80,9 +80,9 @@ fn trace_bytes(
     out: &mut [u8],
 ) -> Run
     ensures stream { result.status.written ≡ true →
-        streamEnd result.status.progress image.new heads.new next.new out.new ≡
-        afterRead (traceResult (length copy.old) (length later.old))
-        (streamEnd t.status.progress image.old heads.old next.old out.old) input.now }
+        stream_end result.status.progress image.new heads.new next.new out.new ≡
+        after_read (trace_result (length copy.old) (length later.old))
+        (stream_end t.status.progress image.old heads.old next.old out.old) input.now }
     ensures reading { result.status.written ≡ true → result.status.reading ≡ not (length input.now == 0) }
 {
     let mut u = t.status;

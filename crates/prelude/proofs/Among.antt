@@ -9,59 +9,59 @@ use lib.ListN.{length}
 use borrow.Author.Tests.{eqb-true, eq-eqb, ne_eqb}
 use Rattle.prelude.specs.Members.{In, Once, Slot}
 use Rattle.prelude.specs.Range.{count}
-use Rattle.prelude.proofs.defs.Among.{isOne, areAmong, member}
-use Rattle.prelude.proofs.Choice.{pick_true, true-false, is_false, pick-false, both_of}
-use Rattle.prelude.proofs.Count.{count_none, count-more}
+use Rattle.prelude.proofs.defs.Among.{is_one, are_among, member}
+use Rattle.prelude.proofs.Choice.{pick_true, true-false, is_false, pick_false, both_of}
+use Rattle.prelude.proofs.Count.{count_none, count_more}
 
-pub one_of : (k : ℕ) (ks : List ℕ) → isOne k ks ≡ true → In k ks
+pub one_of : (k : ℕ) (ks : List ℕ) → is_one k ks ≡ true → In k ks
 one_of k [] e = absurd (true≢false (sym e))
 one_of k (x ∷ xs) e = go (eqb k x) refl e (one_of k xs)
   where
-    go : (b : Bool) → eqb k x ≡ b → cond b true (isOne k xs) ≡ true → (isOne k xs ≡ true → In k xs) → (k ≡ x) ⊎ In k xs
+    go : (b : Bool) → eqb k x ≡ b → cond b true (is_one k xs) ≡ true → (is_one k xs ≡ true → In k xs) → (k ≡ x) ⊎ In k xs
     go true t h later = inl (eqb-true k x t)
     go false t h later = inr (later h)
 
 -- what is in a list is in one that has all its numbers
-pub among : (xs ys : List ℕ) → areAmong xs ys ≡ true → (k : ℕ) → In k xs → In k ys
-among (x ∷ xs) ys e k (inl p) = subst (λ (y : ℕ). In y ys) (sym p) (one_of x ys (both_of (isOne x ys) (areAmong xs ys) e).0)
-among (x ∷ xs) ys e k (inr i) = among xs ys (both_of (isOne x ys) (areAmong xs ys) e).1 k i
+pub among : (xs ys : List ℕ) → are_among xs ys ≡ true → (k : ℕ) → In k xs → In k ys
+among (x ∷ xs) ys e k (inl p) = subst (λ (y : ℕ). In y ys) (sym p) (one_of x ys (both_of (is_one x ys) (are_among xs ys) e).0)
+among (x ∷ xs) ys e k (inr i) = among xs ys (both_of (is_one x ys) (are_among xs ys) e).1 k i
 
 -- ---- the numbers of a list as a set
 
-pub member-in : (l : List ℕ) (t : ℕ) → member l t ≡ true → In t l
+pub member_in : (l : List ℕ) (t : ℕ) → member l t ≡ true → In t l
 unfolding member
-member-in l t e = one_of t l e
+member_in l t e = one_of t l e
 
-pub in-member : (l : List ℕ) (t : ℕ) → In t l → member l t ≡ true
+pub in_member : (l : List ℕ) (t : ℕ) → In t l → member l t ≡ true
 unfolding member
-in-member [] t i = absurd i
-in-member (x ∷ l) t (inl e) = pick_true (eqb t x) true (isOne t l) (eq-eqb t x e)
-in-member (x ∷ l) t (inr i) = either (eqb t x) (in-member l t i)
+in_member [] t i = absurd i
+in_member (x ∷ l) t (inl e) = pick_true (eqb t x) true (is_one t l) (eq-eqb t x e)
+in_member (x ∷ l) t (inr i) = either (eqb t x) (in_member l t i)
   where
-    either : (b : Bool) → isOne t l ≡ true → cond b true (isOne t l) ≡ true
+    either : (b : Bool) → is_one t l ≡ true → cond b true (is_one t l) ≡ true
     either true e = refl
     either false e = e
 
-pub not-member : (l : List ℕ) (t : ℕ) → member l t ≡ false → In t l → ⊥
-not-member l t e i = true-false (in-member l t i) e
+pub not_member : (l : List ℕ) (t : ℕ) → member l t ≡ false → In t l → ⊥
+not_member l t e i = true-false (in_member l t i) e
 
-pub out-member : (l : List ℕ) (t : ℕ) → (In t l → ⊥) → member l t ≡ false
-out-member l t h = is_false (member l t) (λ e. h (member-in l t e))
+pub out_member : (l : List ℕ) (t : ℕ) → (In t l → ⊥) → member l t ≡ false
+out_member l t h = is_false (member l t) (λ e. h (member_in l t e))
 
-pub member-none : (t : ℕ) → member [] t ≡ false
+pub member_none : (t : ℕ) → member [] t ≡ false
 unfolding member
-member-none t = refl
+member_none t = refl
 
-pub member-head : (x : ℕ) (l : List ℕ) → member (x ∷ l) x ≡ true
-member-head x l = in-member (x ∷ l) x (inl refl)
+pub member_head : (x : ℕ) (l : List ℕ) → member (x ∷ l) x ≡ true
+member_head x l = in_member (x ∷ l) x (inl refl)
 
-pub member-tail : (x t : ℕ) (l : List ℕ) → (t ≡ x → ⊥) → member (x ∷ l) t ≡ member l t
+pub member_tail : (x t : ℕ) (l : List ℕ) → (t ≡ x → ⊥) → member (x ∷ l) t ≡ member l t
 unfolding member
-member-tail x t l ne = pick-false (eqb t x) true (isOne t l) (ne_eqb t x ne)
+member_tail x t l ne = pick_false (eqb t x) true (is_one t l) (ne_eqb t x ne)
 
 -- a list of slots, each once, has as many slots as it is long
 pub count-member : (l : List ℕ) (n : ℕ) → Once l → ((t : ℕ) → In t l → Slot n t) → count (member l) n ≡ length l
-count-member [] n o i = count_none (member []) n (λ t j. member-none t)
+count-member [] n o i = count_none (member []) n (λ t j. member_none t)
 count-member (x ∷ l) n o i =
-    count-more (member l) (member (x ∷ l)) n x (i x (inl refl)) (out-member l x o.0) (member-head x l) (λ t j ne. member-tail x t l ne)
+    count_more (member l) (member (x ∷ l)) n x (i x (inl refl)) (out_member l x o.0) (member_head x l) (λ t j ne. member_tail x t l ne)
     ∙ ap suc (count-member l n o.1 (λ t j. i t (inr j)))

@@ -10,15 +10,15 @@ use lib.Arith.{bin_ind}
 use lib.Bits.{bit_and, bit_or, and_step, and_self, and_mask, and_le_r, or_zero_l, or_add_and}
 use lib.Dec.{eqb}
 use borrow.Author.Tests.{eq-eqb, ne_eqb}
-use Rattle.prelude.proofs.Choice.{pick_true, pick-false}
+use Rattle.prelude.proofs.Choice.{pick_true, pick_false}
 
 record PowerOfTwo (b : ℕ) : Type 0 where
   exponent : ℕ
   is : b ≡ 2 ^ exponent
 
 -- a number that shares no bit with the one before it has a single bit
-single-bit : (b : ℕ) → 0 < b → bit_and b (b - 1) ≡ 0 → PowerOfTwo b
-single-bit = bin_ind (λ (b : ℕ). 0 < b → bit_and b (b - 1) ≡ 0 → PowerOfTwo b) (λ h e. absurd (omega arith)) step
+single_bit : (b : ℕ) → 0 < b → bit_and b (b - 1) ≡ 0 → PowerOfTwo b
+single_bit = bin_ind (λ (b : ℕ). 0 < b → bit_and b (b - 1) ≡ 0 → PowerOfTwo b) (λ h e. absurd (omega arith)) step
   where
     step : (b : ℕ) → (0 < b / 2 → bit_and (b / 2) (b / 2 - 1) ≡ 0 → PowerOfTwo (b / 2)) → 0 < b → bit_and b (b - 1) ≡ 0 → PowerOfTwo b
     step b ih h e =
@@ -34,14 +34,14 @@ single-bit = bin_ind (λ (b : ℕ). 0 < b → bit_and b (b - 1) ≡ 0 → PowerO
         record { exponent = suc p.exponent; is = omega (arith, p.is, pow-suc 2 p.exponent) })
 
 -- so its mask gives the remainder
-pub mask-remainder : (n b : ℕ) → 0 < b → bit_and b (b - 1) ≡ 0 → bit_and n (b - 1) ≡ n % b
-mask-remainder n b h e =
-    let p = single-bit b h e in
+pub mask_remainder : (n b : ℕ) → 0 < b → bit_and b (b - 1) ≡ 0 → bit_and n (b - 1) ≡ n % b
+mask_remainder n b h e =
+    let p = single_bit b h e in
     ap (λ (x : ℕ). bit_and n (x - 1)) p.is ∙ and_mask n p.exponent ∙ ap (λ (x : ℕ). n % x) (sym p.is)
 
 -- one of two numbers is not zero
-pub or-nonzero : (a b : ℕ) → not (eqb (bit_or a b) 0) ≡ cond (not (eqb a 0)) true (not (eqb b 0))
-or-nonzero a b =
+pub or_nonzero : (a b : ℕ) → not (eqb (bit_or a b) 0) ≡ cond (not (eqb a 0)) true (not (eqb b 0))
+or_nonzero a b =
     by_cases (dec_lt 0 a)
     (λ h.
     ap not (ne_eqb (bit_or a b) 0 (λ e. omega (arith, or_add_and a b, and_le_r a b)))
@@ -49,4 +49,4 @@ or-nonzero a b =
     (λ h.
     let none : a ≡ 0 = omega arith in
     ap (λ (x : ℕ). not (eqb x 0)) (ap (λ (x : ℕ). bit_or x b) none ∙ or_zero_l b)
-    ∙ sym (pick-false (not (eqb a 0)) _ _ (ap not (eq-eqb a 0 none))))
+    ∙ sym (pick_false (not (eqb a 0)) _ _ (ap not (eq-eqb a 0 none))))

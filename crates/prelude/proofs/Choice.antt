@@ -10,8 +10,8 @@ use borrow.Author.Tests.{lt-ltb, ltb-true}
 pub pick_true {ℓ} : {A : Type ℓ} (b : Bool) (x y : A) → b ≡ true → cond b x y ≡ x
 pick_true b x y e = ap (λ (t : Bool). cond t x y) e
 
-pub pick-false {ℓ} : {A : Type ℓ} (b : Bool) (x y : A) → b ≡ false → cond b x y ≡ y
-pick-false b x y e = ap (λ (t : Bool). cond t x y) e
+pub pick_false {ℓ} : {A : Type ℓ} (b : Bool) (x y : A) → b ≡ false → cond b x y ≡ y
+pick_false b x y e = ap (λ (t : Bool). cond t x y) e
 
 pub split : (b : Bool) → (b ≡ true) ⊎ (b ≡ false)
 split true = inl refl
@@ -60,7 +60,7 @@ positive zero ne = absurd (ne refl)
 positive (suc n) ne = omega arith
 
 -- whether a list is too short, where no more than `size` entries are ever asked for and no more are used
-pub lesser-short : (count size room : ℕ) → count ≤ size → ltb (min size room) count ≡ ltb room count
-lesser-short count size room h =
+pub lesser_short : (count size room : ℕ) → count ≤ size → ltb (min size room) count ≡ ltb room count
+lesser_short count size room h =
     same_test _ _ (λ e. lt-ltb room count (omega (arith, ltb-true (min size room) count e)))
     (λ e. lt-ltb (min size room) count (omega (arith, ltb-true room count e)))

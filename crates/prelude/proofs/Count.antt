@@ -8,9 +8,9 @@ use lib.Dec.{eqb}
 use lib.ListN.{length}
 use borrow.Author.Tests.{eqb-true, eqb-false}
 use Rattle.prelude.specs.Filter.{filter}
-use Rattle.prelude.specs.Members.{Slot, slotNumbers}
+use Rattle.prelude.specs.Members.{Slot, slot_numbers}
 use Rattle.prelude.specs.Range.{count}
-use Rattle.prelude.proofs.Choice.{pick_true, pick-false, true-false}
+use Rattle.prelude.proofs.Choice.{pick_true, pick_false, true-false}
 
 abbrev step : Bool → ℕ → ℕ
 step b m = cond b (suc m) m
@@ -35,10 +35,10 @@ count_most p (suc n) = go (p (suc n)) (count_most p n)
     go false h = omega arith
 
 -- one slot more passes it
-pub count-more : (p q : ℕ → Bool) (n s : ℕ) → Slot n s → p s ≡ false → q s ≡ true → ((t : ℕ) → Slot n t → (t ≡ s → ⊥) → q t ≡ p t) → count q n ≡ suc (count p n)
+pub count_more : (p q : ℕ → Bool) (n s : ℕ) → Slot n s → p s ≡ false → q s ≡ true → ((t : ℕ) → Slot n t → (t ≡ s → ⊥) → q t ≡ p t) → count q n ≡ suc (count p n)
 unfolding count
-count-more p q zero s i e d h = absurd (omega arith)
-count-more p q (suc n) s i e d h = go (eqb s (suc n)) refl (count-more p q n s)
+count_more p q zero s i e d h = absurd (omega arith)
+count_more p q (suc n) s i e d h = go (eqb s (suc n)) refl (count_more p q n s)
   where
     go : (b : Bool) → eqb s (suc n) ≡ b
         → (Slot n s → p s ≡ false → q s ≡ true → ((t : ℕ) → Slot n t → (t ≡ s → ⊥) → q t ≡ p t) → count q n ≡ suc (count p n))
@@ -60,10 +60,10 @@ pub data Gap (p : ℕ → Bool) (n : ℕ) : Type 0 where
   gap : (s : ℕ) → Slot n s → p s ≡ false → Gap p n
 
 -- where not all pass it some slot fails
-pub count-gap : (p : ℕ → Bool) (n : ℕ) → count p n < n → Gap p n
+pub count_gap : (p : ℕ → Bool) (n : ℕ) → count p n < n → Gap p n
 unfolding count
-count-gap p zero h = absurd (omega arith)
-count-gap p (suc n) h = go (p (suc n)) refl (count-gap p n) h
+count_gap p zero h = absurd (omega arith)
+count_gap p (suc n) h = go (p (suc n)) refl (count_gap p n) h
   where
     wider : Gap p n → Gap p (suc n)
     wider (gap s i e) = gap s (omega arith) e
@@ -73,10 +73,10 @@ count-gap p (suc n) h = go (p (suc n)) refl (count-gap p n) h
     go false e ih l = gap (suc n) (omega arith) e
 
 -- where each that passes one test passes another, no more pass it
-pub count-fewer : (p q : ℕ → Bool) (n : ℕ) → ((t : ℕ) → Slot n t → q t ≡ true → p t ≡ true) → count q n ≤ count p n
+pub count_fewer : (p q : ℕ → Bool) (n : ℕ) → ((t : ℕ) → Slot n t → q t ≡ true → p t ≡ true) → count q n ≤ count p n
 unfolding count
-count-fewer p q zero h = omega arith
-count-fewer p q (suc n) h = go (q (suc n)) refl (p (suc n)) refl (count-fewer p q n (λ t i. h t (omega arith)))
+count_fewer p q zero h = omega arith
+count_fewer p q (suc n) h = go (q (suc n)) refl (p (suc n)) refl (count_fewer p q n (λ t i. h t (omega arith)))
   where
     go : (x : Bool) → q (suc n) ≡ x → (y : Bool) → p (suc n) ≡ y → count q n ≤ count p n → step x (count q n) ≤ step y (count p n)
     go true e true d ih = omega arith
@@ -98,7 +98,7 @@ count_less p q (suc n) s i e d h = go (eqb s (suc n)) refl (count_less p q n s)
         → step (q (suc n)) (count q n) < step (p (suc n)) (count p n)
     go true l ih =
         let r = eqb-true s (suc n) l in
-        rw (sym (ap q r) ∙ e, sym (ap p r) ∙ d) (omega (arith, count-fewer p q n below))
+        rw (sym (ap q r) ∙ e, sym (ap p r) ∙ d) (omega (arith, count_fewer p q n below))
     go false l ih = last (q (suc n)) (p (suc n)) (h (suc n) (omega arith)) (ih (omega (arith, eqb-false s (suc n) l)) e d below)
       where
         last : (a b : Bool) → (a ≡ true → b ≡ true) → count q n < count p n → step a (count q n) < step b (count p n)
@@ -108,8 +108,8 @@ count_less p q (suc n) s i e d h = go (eqb s (suc n)) refl (count_less p q n s)
         last false false k m = m
 
 -- as many as the list of all slots keeps
-pub count-filter : (p : ℕ → Bool) (n : ℕ) → count p n ≡ length (filter p (slotNumbers n))
-unfolding count slotNumbers filter
+pub count-filter : (p : ℕ → Bool) (n : ℕ) → count p n ≡ length (filter p (slot_numbers n))
+unfolding count slot_numbers filter
 count-filter p zero = refl
 count-filter p (suc n) = go (p (suc n)) refl (count-filter p n)
   where
@@ -124,21 +124,21 @@ count-filter p (suc n) = go (p (suc n)) refl (count-filter p n)
         at true false ih = ap suc ih
         at false c ih = ih
 
-    go : (b : Bool) → p (suc n) ≡ b → count p n ≡ length (filter p (slotNumbers n)) → step b (count p n) ≡ length (filter p (slotNumbers n ++ (suc n ∷ [])))
-    go b e ih = ap (step b) ih ∙ sym (last (slotNumbers n) (suc n) b e)
+    go : (b : Bool) → p (suc n) ≡ b → count p n ≡ length (filter p (slot_numbers n)) → step b (count p n) ≡ length (filter p (slot_numbers n ++ (suc n ∷ [])))
+    go b e ih = ap (step b) ih ∙ sym (last (slot_numbers n) (suc n) b e)
 
 -- two tests that no slot passes both of
-pub count-both : (p q r : ℕ → Bool) (n : ℕ) → ((t : ℕ) → Slot n t → r t ≡ cond (p t) true (q t)) → ((t : ℕ) → Slot n t → p t ≡ true → q t ≡ false)
+pub count_both : (p q r : ℕ → Bool) (n : ℕ) → ((t : ℕ) → Slot n t → r t ≡ cond (p t) true (q t)) → ((t : ℕ) → Slot n t → p t ≡ true → q t ≡ false)
     → count r n ≡ count p n + count q n
 unfolding count
-count-both p q r zero h k = refl
-count-both p q r (suc n) h k =
+count_both p q r zero h k = refl
+count_both p q r (suc n) h k =
     more (p (suc n)) (q (suc n)) (r (suc n)) (h (suc n) (omega arith)) (k (suc n) (omega arith)) (count p n) (count q n) (count r n)
-    (count-both p q r n (λ t i. h t (omega arith)) (λ t i. k t (omega arith)))
+    (count_both p q r n (λ t i. h t (omega arith)) (λ t i. k t (omega arith)))
   where
     more : (x y z : Bool) → z ≡ cond x true y → (x ≡ true → y ≡ false) → (a b c : ℕ) → c ≡ a + b
         → cond z (suc c) c ≡ cond x (suc a) a + cond y (suc b) b
     more true true z e d a b c ih = absurd (true-false refl (d refl))
     more true false z e d a b c ih = pick_true z (suc c) c e ∙ omega arith
     more false true z e d a b c ih = pick_true z (suc c) c e ∙ omega arith
-    more false false z e d a b c ih = pick-false z (suc c) c e ∙ ih
+    more false false z e d a b c ih = pick_false z (suc c) c e ∙ ih

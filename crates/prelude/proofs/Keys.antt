@@ -10,14 +10,14 @@ use lib.ListN.{length}
 use Rattle.prelude.specs.Members.{In}
 use Rattle.prelude.specs.Keys.{Holds, holds, Keys}
 use Rattle.prelude.proofs.defs.Members.{without}
-use Rattle.prelude.proofs.Lists.{no_longer, in_without, without_in, once-without, without_gone}
+use Rattle.prelude.proofs.Lists.{no_longer, in_without, without_in, once_without, without_gone}
 
 pub some-none : {v : List ℕ} {o : Option (List ℕ)} → o ≡ some v → o ≡ none → ⊥
 some-none {v} {o} p q = let z : ◌≡◌ {A = ℕ} 0 1 = cc in omega arith
 
 -- two lists of a map's keys are equally long
-pub keys-many : (m : ℕ → Option (List ℕ)) (ks js : List ℕ) → Keys m ks → Keys m js → length ks ≡ length js
-keys-many m ks js a b =
+pub keys_many : (m : ℕ → Option (List ℕ)) (ks js : List ℕ) → Keys m ks → Keys m js → length ks ≡ length js
+keys_many m ks js a b =
     omega (
       arith,
       no_longer ks js a.once (λ k i. b.all k (a.held k i)),
@@ -47,7 +47,7 @@ module _ (m m' : ℕ → Option (List ℕ)) (key : ℕ) (elsewhere : (k : ℕ) �
 
     keys_with : (value : List ℕ) → m' key ≡ some value → Keys m' (key ∷ without key ks)
     keys_with value e = record {
-      once = (without_gone key ks a.once, once-without key ks a.once);
+      once = (without_gone key ks a.once, once_without key ks a.once);
       held = held;
       all = λ k h. by_cases (ℕ_discrete k key) (λ q. inl q) (λ ne. inr (left k ne h));
     }
@@ -56,9 +56,9 @@ module _ (m m' : ℕ → Option (List ℕ)) (key : ℕ) (elsewhere : (k : ℕ) �
         held k (inl q) = holds value (ap m' q ∙ e)
         held k (inr i) = kept k i
 
-    keys-without : m' key ≡ none → Keys m' (without key ks)
-    keys-without e = record {
-      once = once-without key ks a.once;
+    keys_without : m' key ≡ none → Keys m' (without key ks)
+    keys_without e = record {
+      once = once_without key ks a.once;
       held = kept;
       all = λ k h. left k (λ q. gone k q h) h;
     }
@@ -66,9 +66,9 @@ module _ (m m' : ℕ → Option (List ℕ)) (key : ℕ) (elsewhere : (k : ℕ) �
         gone : (k : ℕ) → k ≡ key → Holds m' k → ⊥
         gone k q (holds value d) = some-none d (ap m' q ∙ e)
 
-    pub next-listed : Listed m'
-    next-listed = go (m' key) refl
+    pub next_listed : Listed m'
+    next_listed = go (m' key) refl
       where
         go : (held : Option (List ℕ)) → m' key ≡ held → Listed m'
-        go none e = listed (without key ks) (keys-without e)
+        go none e = listed (without key ks) (keys_without e)
         go (some value) e = listed (key ∷ without key ks) (keys_with value e)

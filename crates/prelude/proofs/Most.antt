@@ -8,27 +8,27 @@ use borrow.Author.Tests.{ltb-true, ltb-false}
 use Rattle.prelude.specs.Range.{greatest, topmost}
 use Rattle.prelude.specs.Members.{Slot}
 
-pub greatest-above : (g : ℕ → ℕ) (n t : ℕ) → Slot n t → g t ≤ greatest g n
+pub greatest_above : (g : ℕ → ℕ) (n t : ℕ) → Slot n t → g t ≤ greatest g n
 unfolding greatest
-greatest-above g zero t i = absurd (omega arith)
-greatest-above g (suc n) t i = go (ltb n t) refl (greatest-above g n t)
+greatest_above g zero t i = absurd (omega arith)
+greatest_above g (suc n) t i = go (ltb n t) refl (greatest_above g n t)
   where
     go : (b : Bool) → ltb n t ≡ b → (Slot n t → g t ≤ greatest g n) → g t ≤ max (greatest g n) (g (suc n))
     go true e ih = let h = ltb-true n t e in let q : t ≡ suc n = omega arith in omega (arith, ap g q)
     go false e ih = let h = ltb-false n t e in omega (arith, ih (omega arith))
 
-pub greatest-least : (g : ℕ → ℕ) (n m : ℕ) → ((t : ℕ) → Slot n t → g t ≤ m) → greatest g n ≤ m
+pub greatest_least : (g : ℕ → ℕ) (n m : ℕ) → ((t : ℕ) → Slot n t → g t ≤ m) → greatest g n ≤ m
 unfolding greatest
-greatest-least g zero m h = omega arith
-greatest-least g (suc n) m h = omega (arith, h (suc n) (omega arith), greatest-least g n m (λ t i. h t (omega arith)))
+greatest_least g zero m h = omega arith
+greatest_least g (suc n) m h = omega (arith, h (suc n) (omega arith), greatest_least g n m (λ t i. h t (omega arith)))
 
 -- functions that agree at the slots have one greatest value
-pub greatest-same : (g h : ℕ → ℕ) (n : ℕ) → ((t : ℕ) → Slot n t → g t ≡ h t) → greatest g n ≡ greatest h n
-greatest-same g h n e =
+pub greatest_same : (g h : ℕ → ℕ) (n : ℕ) → ((t : ℕ) → Slot n t → g t ≡ h t) → greatest g n ≡ greatest h n
+greatest_same g h n e =
     omega (
       arith,
-      greatest-least g n (greatest h n) (λ t i. omega (arith, e t i, greatest-above h n t i)),
-      greatest-least h n (greatest g n) (λ t i. omega (arith, e t i, greatest-above g n t i)),
+      greatest_least g n (greatest h n) (λ t i. omega (arith, e t i, greatest_above h n t i)),
+      greatest_least h n (greatest g n) (λ t i. omega (arith, e t i, greatest_above g n t i)),
     )
 
 -- s is the first slot at which g is greatest, or 0 where g is 0 at all slots
@@ -53,39 +53,39 @@ module _ (g : ℕ → ℕ) (n : ℕ) where
       go false e = h t (omega (arith, ltb-false n t e))
 
   passed : (s : ℕ) → First g n s → g (suc n) ≤ greatest g n → First g (suc n) s
-  passed s (nowhere e z) l = nowhere e (each (λ t. g t ≡ 0) z (omega (arith, greatest-least g n 0 (λ t i. omega (arith, z t i)))))
+  passed s (nowhere e z) l = nowhere e (each (λ t. g t ≡ 0) z (omega (arith, greatest_least g n 0 (λ t i. omega (arith, z t i)))))
   passed s (there i p h b) l =
-      there (omega arith) p (each (λ t. g t ≤ g s) h (omega (arith, greatest-least g n (g s) h))) (λ t j k. b t (omega arith) k)
+      there (omega arith) p (each (λ t. g t ≤ g s) h (omega (arith, greatest_least g n (g s) h))) (λ t j k. b t (omega arith) k)
 
-pub first-is : (g : ℕ → ℕ) (n : ℕ) → First g n (topmost g n)
+pub first_is : (g : ℕ → ℕ) (n : ℕ) → First g n (topmost g n)
 unfolding topmost
-first-is g zero = nowhere refl (λ t i. absurd (omega arith))
-first-is g (suc n) = go (ltb (greatest g n) (g (suc n))) refl (first-is g n)
+first_is g zero = nowhere refl (λ t i. absurd (omega arith))
+first_is g (suc n) = go (ltb (greatest g n) (g (suc n))) refl (first_is g n)
   where
     go : (b : Bool) → ltb (greatest g n) (g (suc n)) ≡ b → First g n (topmost g n) → First g (suc n) (cond b (suc n) (topmost g n))
     go true e ih =
         let l = ltb-true (greatest g n) (g (suc n)) e in
-        there (omega arith) (omega arith) (λ t i. more g n t i (greatest-above g n t) l) (λ t i h. omega (arith, greatest-above g n t (omega arith)))
+        there (omega arith) (omega arith) (λ t i. more g n t i (greatest_above g n t) l) (λ t i h. omega (arith, greatest_above g n t (omega arith)))
     go false e ih = passed g n (topmost g n) ih (ltb-false (greatest g n) (g (suc n)) e)
 
-pub first-unique : (g : ℕ → ℕ) (n s t : ℕ) → First g n s → First g n t → s ≡ t
-first-unique g n s t (nowhere e z) (nowhere d y) = omega arith
-first-unique g n s t (nowhere e z) (there i p h b) = absurd (omega (arith, z t i))
-first-unique g n s t (there i p h b) (nowhere e z) = absurd (omega (arith, z s i))
-first-unique g n s t (there i p h b) (there j q k c) = go (ltb s t) refl (ltb t s) refl
+pub first_unique : (g : ℕ → ℕ) (n s t : ℕ) → First g n s → First g n t → s ≡ t
+first_unique g n s t (nowhere e z) (nowhere d y) = omega arith
+first_unique g n s t (nowhere e z) (there i p h b) = absurd (omega (arith, z t i))
+first_unique g n s t (there i p h b) (nowhere e z) = absurd (omega (arith, z s i))
+first_unique g n s t (there i p h b) (there j q k c) = go (ltb s t) refl (ltb t s) refl
   where
     go : (x : Bool) → ltb s t ≡ x → (y : Bool) → ltb t s ≡ y → s ≡ t
     go true d y e = absurd (omega (arith, c s i (ltb-true s t d), h t j))
     go false d true e = absurd (omega (arith, b t j (ltb-true t s e), k s i))
     go false d false e = omega (arith, ltb-false s t d, ltb-false t s e)
 
-pub first-eq : (g : ℕ → ℕ) (n s : ℕ) → First g n s → topmost g n ≡ s
-first-eq g n s h = first-unique g n (topmost g n) s (first-is g n) h
+pub first_eq : (g : ℕ → ℕ) (n s : ℕ) → First g n s → topmost g n ≡ s
+first_eq g n s h = first_unique g n (topmost g n) s (first_is g n) h
 
 -- the first such number is the same where g is the same at all slots
-pub topmost-same : (g h : ℕ → ℕ) (n : ℕ) → ((t : ℕ) → Slot n t → g t ≡ h t) → topmost g n ≡ topmost h n
+pub topmost_same : (g h : ℕ → ℕ) (n : ℕ) → ((t : ℕ) → Slot n t → g t ≡ h t) → topmost g n ≡ topmost h n
 unfolding topmost
-topmost-same g h zero e = refl
-topmost-same g h (suc n) e =
+topmost_same g h zero e = refl
+topmost_same g h (suc n) e =
     ap₂ (λ (b : Bool) (x : ℕ). cond b (suc n) x)
-    (ap₂ ltb (greatest-same g h n (λ t i. e t (omega arith))) (e (suc n) (omega arith))) (topmost-same g h n (λ t i. e t (omega arith)))
+    (ap₂ ltb (greatest_same g h n (λ t i. e t (omega arith))) (e (suc n) (omega arith))) (topmost_same g h n (λ t i. e t (omega arith)))

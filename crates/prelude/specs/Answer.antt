@@ -9,16 +9,16 @@ pub data Answer : Type 0 where
   refused : (number : ℕ) → Answer
 
 -- the number of a refusal, 0 for any other answer
-unfoldable pub refusalIn : Answer → ℕ
-refusalIn (gives given) = 0
-refusalIn absent = 0
-refusalIn (refused number) = number
+unfoldable pub refusal_in : Answer → ℕ
+refusal_in (gives given) = 0
+refusal_in absent = 0
+refusal_in (refused number) = number
 
 -- the values that the call gives, or those that were lent
-unfoldable pub givenOr : Answer → (lent : List ℕ) → List ℕ
-givenOr (gives values) lent = values
-givenOr absent lent = lent
-givenOr (refused number) lent = lent
+unfoldable pub given_or : Answer → (lent : List ℕ) → List ℕ
+given_or (gives values) lent = values
+given_or absent lent = lent
+given_or (refused number) lent = lent
 
 -- a number that is not 0 refuses
 unfoldable pub refuses : (number : ℕ) → Bool

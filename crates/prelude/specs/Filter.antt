@@ -7,10 +7,10 @@ filter p [] = []
 filter p (x ∷ xs) = cond (p x) (x ∷ filter p xs) (filter p xs)
 
 -- does any element pass it?
-unfoldable pub anyIn : (ℕ → Bool) → List ℕ → Bool
-anyIn p [] = false
-anyIn p (x ∷ xs) = cond (p x) true (anyIn p xs)
+unfoldable pub any_in : (ℕ → Bool) → List ℕ → Bool
+any_in p [] = false
+any_in p (x ∷ xs) = cond (p x) true (any_in p xs)
 
 -- is n one of them?
-unfoldable pub isAmong : (n : ℕ) → List ℕ → Bool
-isAmong n xs = anyIn (λ k. eqb k n) xs
+unfoldable pub is_among : (n : ℕ) → List ℕ → Bool
+is_among n xs = any_in (λ k. eqb k n) xs

@@ -27,9 +27,9 @@ Once [] = Unit
 Once (x ∷ l) = (In x l → ⊥) × Once l
 
 -- 1 to n
-unfoldable pub slotNumbers : (n : ℕ) → List ℕ
-slotNumbers zero = []
-slotNumbers (suc n) = slotNumbers n ++ (suc n ∷ [])
+unfoldable pub slot_numbers : (n : ℕ) → List ℕ
+slot_numbers zero = []
+slot_numbers (suc n) = slot_numbers n ++ (suc n ∷ [])
 
 -- s is one of the slots 1 to n
 abbrev pub Slot : (n s : ℕ) → Type 0

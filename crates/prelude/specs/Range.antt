@@ -1,6 +1,6 @@
 -- Tests, lists and counts over ranges of numbers.
 use Rattle.std.specs.Prelude.{Bool, true, false, cond, List, [], ◌∷◌, ℕ, zero, suc, max, eqb, ltb}
-use Rattle.prelude.specs.Refusal.{refuseIf, or_else}
+use Rattle.prelude.specs.Refusal.{refuse_if, or_else}
 
 -- the test holds at one of the n numbers from k on
 unfoldable pub any_of : (ℕ → Bool) → (k n : ℕ) → Bool
@@ -25,11 +25,11 @@ topmost g (suc n) = cond (ltb (greatest g n) (g (suc n))) (suc n) (topmost g n)
 -- the lowest of 1 to n at which g is not 0, 0 where g is 0 at all of them
 unfoldable pub lowest : (g : ℕ → ℕ) → (n : ℕ) → ℕ
 lowest g zero = 0
-lowest g (suc n) = or_else (lowest g n) (refuseIf (eqb (g (suc n)) 0) 0 (suc n))
+lowest g (suc n) = or_else (lowest g n) (refuse_if (eqb (g (suc n)) 0) 0 (suc n))
 
 -- g there, 0 where g is 0 at all of them
-unfoldable pub atLowest : (g : ℕ → ℕ) → (n : ℕ) → ℕ
-atLowest g n = refuseIf (eqb (lowest g n) 0) 0 (g (lowest g n))
+unfoldable pub at_lowest : (g : ℕ → ℕ) → (n : ℕ) → ℕ
+at_lowest g n = refuse_if (eqb (lowest g n) 0) 0 (g (lowest g n))
 
 -- how many of 1 to n pass a test
 unfoldable pub count : (p : ℕ → Bool) → (n : ℕ) → ℕ

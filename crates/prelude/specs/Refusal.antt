@@ -2,9 +2,9 @@
 use Rattle.std.specs.Prelude.{Bool, true, false, ℕ, zero, suc}
 
 -- k where the test holds; otherwise what comes after
-unfoldable pub refuseIf : Bool → ℕ → ℕ → ℕ
-refuseIf true k later = k
-refuseIf false k later = later
+unfoldable pub refuse_if : Bool → ℕ → ℕ → ℕ
+refuse_if true k later = k
+refuse_if false k later = later
 
 -- the first refusal if there is one; otherwise what comes after
 unfoldable pub or_else : ℕ → ℕ → ℕ
@@ -13,6 +13,6 @@ or_else (suc k) later = suc k
 
 module _ {A : Type 0} where
   -- what a call leaves: `new` where its refusal is 0, else `old`
-  unfoldable pub unlessRefused : ℕ → (new old : A) → A
-  unlessRefused zero new old = new
-  unlessRefused (suc k) new old = old
+  unfoldable pub unless_refused : ℕ → (new old : A) → A
+  unless_refused zero new old = new
+  unless_refused (suc k) new old = old

@@ -4,27 +4,27 @@ use mathlib.Core.List.{List}
 use Prim.Native.Nat.{ℕ}
 use lib.ListN.{length}
 use Rattle.words.specs.Word.{word}
-use Rattle.layout.specs.Size.{slotsIn}
+use Rattle.layout.specs.Size.{slots_in}
 use Rattle.table.specs.Complete.{table_of}
-use Rattle.prelude.proofs.Refusals.{taken-leaves}
+use Rattle.prelude.proofs.Refusals.{taken_leaves}
 use Rattle.stores.specs.Store.{Store}
-use Rattle.stores.specs.Invalidation.{invalidatingStores}
-use Rattle.recovery.specs.Invalidation.{voidSlots}
-use Rattle.recovery.specs.Recover.{recoverFault, recovered, recoverResult}
+use Rattle.stores.specs.Invalidation.{invalidating_stores}
+use Rattle.recovery.specs.Invalidation.{void_slots}
+use Rattle.recovery.specs.Recover.{recover_fault, recovered, recover_result}
 
 abbrev stores : (l : ℕ) → (image : List ℕ) → List Store
-stores l image = invalidatingStores (word image) (voidSlots l (word image) (slotsIn image))
+stores l image = invalidating_stores (word image) (void_slots l (word image) (slots_in image))
 
 -- a recovery that is not refused leaves the recovered index
-pub recovery-taken : (l : ℕ) (image heads next : List ℕ) → recoverFault l image (length heads) (length next) ≡ 0
-    → recoverResult l image heads next ≡ recovered (table_of l image) (slotsIn image) (length heads) (stores l image)
-unfolding recoverResult
-recovery-taken l image heads next z =
-    taken-leaves (recovered (table_of l image) (slotsIn image) (length heads) (stores l image)) _ (recoverFault l image (length heads) (length next)) z
+pub recovery_taken : (l : ℕ) (image heads next : List ℕ) → recover_fault l image (length heads) (length next) ≡ 0
+    → recover_result l image heads next ≡ recovered (table_of l image) (slots_in image) (length heads) (stores l image)
+unfolding recover_result
+recovery_taken l image heads next z =
+    taken_leaves (recovered (table_of l image) (slots_in image) (length heads) (stores l image)) _ (recover_fault l image (length heads) (length next)) z
 
-pub same-recovery : (l : ℕ) (image heads next heads' next' : List ℕ) → length heads ≡ length heads' → length next ≡ length next'
-    → recoverFault l image (length heads) (length next) ≡ 0 → recoverResult l image heads next ≡ recoverResult l image heads' next'
-same-recovery l image heads next heads' next' p q z =
-    recovery-taken l image heads next z
-    ∙ ap (λ (b : ℕ). recovered (table_of l image) (slotsIn image) b (stores l image)) p
-    ∙ sym (recovery-taken l image heads' next' (sym (ap₂ (recoverFault l image) p q) ∙ z))
+pub same_recovery : (l : ℕ) (image heads next heads' next' : List ℕ) → length heads ≡ length heads' → length next ≡ length next'
+    → recover_fault l image (length heads) (length next) ≡ 0 → recover_result l image heads next ≡ recover_result l image heads' next'
+same_recovery l image heads next heads' next' p q z =
+    recovery_taken l image heads next z
+    ∙ ap (λ (b : ℕ). recovered (table_of l image) (slots_in image) b (stores l image)) p
+    ∙ sym (recovery_taken l image heads' next' (sym (ap₂ (recover_fault l image) p q) ∙ z))

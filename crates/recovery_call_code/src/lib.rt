@@ -1,7 +1,7 @@
 // Recover: the index of an image is rebuilt.
 ghost use Rattle.std.specs.Prelude.{◌≡◌};
 ghost use Rattle.layout.specs.Record.{Layout};
-ghost use Rattle.recovery.specs.Recover.{recoverResult, recoverEnd};
+ghost use Rattle.recovery.specs.Recover.{recover_result, recover_end};
 ghost use Rattle.recovery.specs.inner.Report.{RecoveredWith};
 
 use layout_code::header::{lent_fault, slot_count};
@@ -56,16 +56,16 @@ pub fn recover_in(image: &[u8], l: usize, heads: &mut [u32], next: &mut [u32]) -
 // The index of the image: the state beside the rebuilt heads and next with the invalidating stores, or a
 // refusal, which changes neither.
 pub fn recover(image: &[u8], heads: &mut [u32], next: &mut [u32]) -> RecoverAnswer
-    ensures result { recoverEnd result.recovered result.invalidations heads.new next.new
-        ≡ recoverResult 1 image.now heads.old next.old }
+    ensures result { recover_end result.recovered result.invalidations heads.new next.new
+        ≡ recover_result 1 image.now heads.old next.old }
 {
     recover_in(image, 1, heads, next).answer
 }
 
 // Recover in layout 2.
 pub fn recover2(image: &[u8], heads: &mut [u32], next: &mut [u32]) -> RecoverAnswer
-    ensures result { recoverEnd result.recovered result.invalidations heads.new next.new
-        ≡ recoverResult 2 image.now heads.old next.old }
+    ensures result { recover_end result.recovered result.invalidations heads.new next.new
+        ≡ recover_result 2 image.now heads.old next.old }
 {
     recover_in(image, 2, heads, next).answer
 }

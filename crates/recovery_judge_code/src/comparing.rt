@@ -3,10 +3,10 @@
 ghost use Rattle.std.specs.Prelude.{◌≡◌, ◌+◌, ◌-◌, ◌≤◌, ◌<◌, length, get_or};
 ghost use Rattle.words.specs.Word.{word};
 ghost use Rattle.prelude.specs.Range.{any_of};
-ghost use Rattle.layout.specs.Content.{sizeFieldIn};
-ghost use Rattle.table.specs.Complete.{basketSize};
+ghost use Rattle.layout.specs.Content.{size_field_in};
+ghost use Rattle.table.specs.Complete.{basket_size};
 ghost use Rattle.recovery.specs.inner.Scan.{key_at};
-ghost use Rattle.recovery.specs.inner.Decide.{equalNeighbours, tooMany, runFault, keyTwice, Within, NoneOrAll};
+ghost use Rattle.recovery.specs.inner.Decide.{equal_neighbours, too_many, run_fault, key_twice, Within, NoneOrAll};
 ghost use Rattle.recovery.specs.inner.Judge.{OrderNumbered, Comparable, Compared};
 
 use layout_fields_code::fields::slot_number;
@@ -15,7 +15,7 @@ use recovery_order_code::ordering::{entry_at, is_followed, order_by_key, order_b
 // How many records a number says.
 pub fn records_said(number: u64) -> usize
     requires { number < 256 }
-    ensures result { (result ≡ basketSize number) × (1 ≤ result) × (result < 256) }
+    ensures result { (result ≡ basket_size number) × (1 ≤ result) × (result < 256) }
 {
     if number == 0 {
         return 1;
@@ -26,7 +26,7 @@ pub fn records_said(number: u64) -> usize
 // The number of the slot at position i of the order.
 pub fn number_at(image: &[u8], l: usize, order: &[u32], i: usize, n: usize) -> u64
     requires { OrderNumbered image.now l order.now n × (i < n) }
-    ensures result { (result ≡ sizeFieldIn l (word image.now) (get_or order.now i 0)) × (result < 256) }
+    ensures result { (result ≡ size_field_in l (word image.now) (get_or order.now i 0)) × (result < 256) }
 {
     let x = order[i] as usize;
     slot_number(image, l, x)
@@ -35,7 +35,7 @@ pub fn number_at(image: &[u8], l: usize, order: &[u32], i: usize, n: usize) -> u
 // Do two neighbours of the order have one rank, and are records?
 fn is_shared(ranks: &[u64], order: &[u32], i: usize) -> bool
     requires { (i + 1 < length order.now) × (get_or order.now i 0 < length ranks.now) × (get_or order.now (i + 1) 0 < length ranks.now) }
-    ensures { result ≡ equalNeighbours ranks.now order.now i }
+    ensures { result ≡ equal_neighbours ranks.now order.now i }
 {
     let a = entry_at(ranks, order, i);
     if a < 2 {
@@ -47,7 +47,7 @@ fn is_shared(ranks: &[u64], order: &[u32], i: usize) -> bool
 // Do any two neighbours?
 fn any_shared(ranks: &[u64], order: &[u32], n: usize) -> bool
     requires { (length order.now ≡ n) × (1 ≤ n) × (length ranks.now ≡ n + 1) × Within order.now n }
-    ensures { result ≡ any_of (equalNeighbours ranks.now order.now) 0 (n - 1) }
+    ensures { result ≡ any_of (equal_neighbours ranks.now order.now) 0 (n - 1) }
 {
     let end = n - 1;
     let mut i = 0;
@@ -63,7 +63,7 @@ fn any_shared(ranks: &[u64], order: &[u32], n: usize) -> bool
 // From position i on, does its run go on for more slots than the number of the slot says?
 fn is_too_many(image: &[u8], l: usize, ranks: &[u64], order: &[u32], i: usize, n: usize) -> bool
     requires { OrderNumbered image.now l order.now n × (length ranks.now ≡ n + 1) × (i < n) }
-    ensures { result ≡ tooMany (sizeFieldIn l (word image.now)) ranks.now order.now i }
+    ensures { result ≡ too_many (size_field_in l (word image.now)) ranks.now order.now i }
 {
     let end = i + records_said(number_at(image, l, order, i, n));
     if n <= end {
@@ -75,7 +75,7 @@ fn is_too_many(image: &[u8], l: usize, ranks: &[u64], order: &[u32], i: usize, n
 // Do the slots at positions i and i + 1 share a version and differ in their numbers, or are there too many of them?
 fn is_run_fault(image: &[u8], l: usize, ranks: &[u64], order: &[u32], i: usize, n: usize) -> bool
     requires { OrderNumbered image.now l order.now n × (length ranks.now ≡ n + 1) × (i + 1 < n) }
-    ensures { result ≡ runFault (sizeFieldIn l (word image.now)) ranks.now order.now i }
+    ensures { result ≡ run_fault (size_field_in l (word image.now)) ranks.now order.now i }
 {
     if !is_shared(ranks, order, i) {
         return false;
@@ -89,7 +89,7 @@ fn is_run_fault(image: &[u8], l: usize, ranks: &[u64], order: &[u32], i: usize, 
 // Do any two neighbours?
 fn any_run_fault(image: &[u8], l: usize, ranks: &[u64], order: &[u32], n: usize) -> bool
     requires { OrderNumbered image.now l order.now n × (length ranks.now ≡ n + 1) × (1 ≤ n) }
-    ensures { result ≡ any_of (runFault (sizeFieldIn l (word image.now)) ranks.now order.now) 0 (n - 1) }
+    ensures { result ≡ any_of (run_fault (size_field_in l (word image.now)) ranks.now order.now) 0 (n - 1) }
 {
     let end = n - 1;
     let mut i = 0;
@@ -113,7 +113,7 @@ fn is_key_twice(
 ) -> bool
     requires { (length order.now ≡ n) × (length ranks.now ≡ n + 1) × (length lows.now ≡ n + 1) × NoneOrAll highs.now n × Within order.now
         n × (i + 1 < n) }
-    ensures { result ≡ keyTwice (key_at lows.now highs.now) ranks.now order.now i }
+    ensures { result ≡ key_twice (key_at lows.now highs.now) ranks.now order.now i }
 {
     if !is_followed(lows, highs, order, i, n) {
         return false;
@@ -125,7 +125,7 @@ fn is_key_twice(
 fn any_key_twice(ranks: &[u64], lows: &[u64], highs: &[u64], order: &[u32], n: usize) -> bool
     requires { (length order.now ≡ n) × (length ranks.now ≡ n + 1) × (length lows.now ≡ n + 1) × NoneOrAll highs.now n × Within order.now
         n × (1 ≤ n) }
-    ensures { result ≡ any_of (keyTwice (key_at lows.now highs.now) ranks.now order.now) 0 (n - 1) }
+    ensures { result ≡ any_of (key_twice (key_at lows.now highs.now) ranks.now order.now) 0 (n - 1) }
 {
     let end = n - 1;
     let mut i = 0;
@@ -152,7 +152,7 @@ pub fn compare(
     scratch: &mut [u32],
 ) -> bool
     requires { Comparable image.now l n ranks.now lows.now highs.now order.old by_key.old scratch.old }
-    ensures result { Compared (sizeFieldIn l (word image.now)) ranks.now lows.now highs.now n
+    ensures result { Compared (size_field_in l (word image.now)) ranks.now lows.now highs.now n
         order.new by_key.new result }
 {
     order_by_rank(ranks, order, scratch);

@@ -3,12 +3,12 @@
 ghost use Rattle.std.specs.Prelude.{◌≡◌, [], ◌+◌, ◌*◌, ◌≤◌, ◌<◌, ltb, length, get_or};
 ghost use Rattle.words.specs.Word.{word};
 ghost use Rattle.prelude.specs.Filter.{filter};
-ghost use Rattle.prelude.specs.Members.{slotNumbers};
-ghost use Rattle.layout.specs.Content.{sizeFieldIn};
-ghost use Rattle.stores.specs.Invalidation.{invalidatingStores};
-ghost use Rattle.recovery.specs.Invalidation.{invalidationsOf};
-ghost use Rattle.recovery.specs.inner.Decide.{fullRun, judgedRank, Cleared};
-ghost use Rattle.recovery.specs.inner.Judge.{OrderNumbered, Settleable, Settled, withStore};
+ghost use Rattle.prelude.specs.Members.{slot_numbers};
+ghost use Rattle.layout.specs.Content.{size_field_in};
+ghost use Rattle.stores.specs.Invalidation.{invalidating_stores};
+ghost use Rattle.recovery.specs.Invalidation.{invalidations_of};
+ghost use Rattle.recovery.specs.inner.Decide.{full_run, judged_rank, Cleared};
+ghost use Rattle.recovery.specs.inner.Judge.{OrderNumbered, Settleable, Settled, with_store};
 
 use crate::comparing::{number_at, records_said};
 use layout_line_code::line::first_word;
@@ -19,7 +19,7 @@ use words_code::read_word;
 // Up to position i, is its run as long as the number of the slot says?
 fn is_full(image: &[u8], l: usize, ranks: &[u64], order: &[u32], i: usize, n: usize) -> bool
     requires { OrderNumbered image.now l order.now n × (length ranks.now ≡ n + 1) × (i < n) }
-    ensures { result ≡ fullRun (sizeFieldIn l (word image.now)) ranks.now order.now i }
+    ensures { result ≡ full_run (size_field_in l (word image.now)) ranks.now order.now i }
 {
     let size = records_said(number_at(image, l, order, i, n));
     if i + 1 < size {
@@ -32,7 +32,7 @@ fn is_full(image: &[u8], l: usize, ranks: &[u64], order: &[u32], i: usize, n: us
 // above it are void.
 pub fn judged_rank(image: &[u8], l: usize, ranks: &[u64], order: &[u32], n: usize) -> u64
     requires { OrderNumbered image.now l order.now n × (length ranks.now ≡ n + 1) }
-    ensures result { result ≡ judgedRank (sizeFieldIn l (word image.now)) ranks.now order.now n }
+    ensures result { result ≡ judged_rank (size_field_in l (word image.now)) ranks.now order.now n }
 {
     let mut i = n;
     while 0 < i {
@@ -50,7 +50,7 @@ pub fn judged_rank(image: &[u8], l: usize, ranks: &[u64], order: &[u32], n: usiz
 
 // No invalidating stores.
 pub fn no_invalidations() -> Invalidations
-    ensures result { result ≡ invalidationsOf [] }
+    ensures result { result ≡ invalidations_of [] }
 {
     Invalidations {
         count: 0,
@@ -62,7 +62,7 @@ pub fn no_invalidations() -> Invalidations
 // Invalidating stores with one more, that of this word and value.
 fn with_store(opened: Invalidations, word: u32, mark: u64) -> Invalidations
     requires { opened.count < 65536 }
-    ensures { result ≡ withStore opened (record { word = word; value = mark }) }
+    ensures { result ≡ with_store opened (record { word = word; value = mark }) }
 {
     let count = opened.count + 1;
     let mut at = opened.at;
@@ -79,7 +79,7 @@ fn with_store(opened: Invalidations, word: u32, mark: u64) -> Invalidations
 fn invalidating_stores(image: &[u8], ranks: &[u64], n: usize, limit: u64) -> Invalidations
     requires { (length image.now ≡ 128 * (n + 1)) × (length ranks.now ≡ n + 1) × (n ≤ 65535) }
     ensures { result
-        ≡ invalidationsOf (invalidatingStores (word image.now) (filter (λ s. ltb limit (get_or ranks.now s 0)) (slotNumbers n))) }
+        ≡ invalidations_of (invalidating_stores (word image.now) (filter (λ s. ltb limit (get_or ranks.now s 0)) (slot_numbers n))) }
 {
     let mut opened = no_invalidations();
     let mut s = 1;

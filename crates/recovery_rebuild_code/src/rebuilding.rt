@@ -2,8 +2,8 @@
 ghost use Rattle.std.specs.Prelude.{◌≡◌, ◌+◌, ◌<◌, ◌^◌, length, replicate};
 ghost use Rattle.index.specs.Chained.{last_of};
 ghost use Rattle.index.specs.inner.Build.{build, place_in, unbuilt, Ordered};
-ghost use Rattle.index.specs.Index.{index_of, withCounts};
-ghost use Rattle.recovery.specs.inner.Judge.{Ready, Judgeable, Left, answerBy};
+ghost use Rattle.index.specs.Index.{index_of, with_counts};
+ghost use Rattle.recovery.specs.inner.Judge.{Ready, Judgeable, Left, answer_by};
 ghost use Rattle.recovery.specs.inner.Report.{RecoveredWith};
 
 use index::State;
@@ -35,7 +35,7 @@ fn rebuild(
 ) -> State
     requires { Ordered heads.old next.old order.now places.now × (top < 2 ^ 63) }
     ensures { index_of heads.new next.new result
-        ≡ withCounts (build (place_in places.now) (unbuilt (replicate (length heads.old) 0) (replicate (length next.old) 0))
+        ≡ with_counts (build (place_in places.now) (unbuilt (replicate (length heads.old) 0) (replicate (length next.old) 0))
         order.now) live (top + 1) (last_of order.now) }
 {
     zero_numbers(heads);
@@ -83,7 +83,7 @@ fn recover_answer(
     state: State,
     invalidations: Invalidations,
 ) -> RecoverAnswer
-    ensures { result ≡ answerBy fault slot state invalidations }
+    ensures { result ≡ answer_by fault slot state invalidations }
 {
     if fault == 0 {
         return RecoverAnswer {

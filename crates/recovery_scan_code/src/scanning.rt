@@ -1,11 +1,11 @@
 // One pass over the slots of an image.
 ghost use Rattle.std.specs.Prelude.{◌≡◌, cond, ℕ, suc, ◌+◌, ◌≤◌, ◌<◌, ◌^◌, eqb};
 ghost use Rattle.words.specs.Word.{word};
-ghost use Rattle.prelude.specs.Refusal.{refuseIf, or_else};
+ghost use Rattle.prelude.specs.Refusal.{refuse_if, or_else};
 ghost use Rattle.layout.specs.inner.Inside.{SlotInside};
-ghost use Rattle.layout.specs.Record.{keyWith};
+ghost use Rattle.layout.specs.Record.{key_with};
 ghost use Rattle.index.specs.Index.{head_of};
-ghost use Rattle.recovery.specs.inner.Scan.{Scannable, validSummary, Summed, isRemoveBy, ClassesWith, slotsCounted, ScanWith, Scanned};
+ghost use Rattle.recovery.specs.inner.Scan.{Scannable, valid_summary, Summed, is_remove_by, ClassesWith, slots_counted, ScanWith, Scanned};
 
 use index_read_code::head::head_of;
 use layout::Verdict;
@@ -17,7 +17,7 @@ use words_code::greater;
 // The chain of a record whose key has this low word, as a number: a put's is that of its key's head.
 fn record_place(kind: u64, low: u64, b: usize) -> u32
     requires { (1 ≤ b) × (b ≤ 65536) }
-    ensures { (high : ℕ) → result ≡ cond (eqb kind 2) 0 (head_of (keyWith low high) b + 1) }
+    ensures { (high : ℕ) → result ≡ cond (eqb kind 2) 0 (head_of (key_with low high) b + 1) }
 {
     if kind == 2 {
         return 0;
@@ -28,7 +28,7 @@ fn record_place(kind: u64, low: u64, b: usize) -> u32
 // What is kept of a valid slot.
 fn valid_summary(image: &[u8], l: usize, s: usize, b: usize, version: u64, mark: bool) -> Summary
     requires { SlotInside image.now l s × (1 ≤ b) × (b ≤ 65536) × (version < 2 ^ 63) }
-    ensures { result ≡ validSummary l (word image.now) s b version mark }
+    ensures { result ≡ valid_summary l (word image.now) s b version mark }
 {
     let low = slot_low(image, s);
     let place = record_place(slot_kind(image, l, s), low, b);
@@ -85,7 +85,7 @@ fn first_of(a: u32, b: u32) -> u32
 
 // Slot s where it has a fault, else 0.
 fn slot_at_fault(fault: u32, s: u32) -> u32
-    ensures { result ≡ refuseIf (eqb fault 0) 0 s }
+    ensures { result ≡ refuse_if (eqb fault 0) 0 s }
 {
     if fault == 0 {
         return 0;
@@ -106,7 +106,7 @@ fn count_if(count: u32, test: bool) -> u32
 
 // Is a slot of this rank and this place a remove?
 fn is_remove(rank: u64, place: u32) -> bool
-    ensures { result ≡ isRemoveBy rank place }
+    ensures { result ≡ is_remove_by rank place }
 {
     if rank < 2 {
         return false;
@@ -116,7 +116,7 @@ fn is_remove(rank: u64, place: u32) -> bool
 
 // The classes with one slot more, of this rank and this place.
 fn classes_with(classes: Classes, rank: u64, place: u32) -> Classes
-    requires { slotsCounted classes < 65536 }
+    requires { slots_counted classes < 65536 }
     ensures { ClassesWith classes rank place result }
 {
     Classes {
@@ -129,7 +129,7 @@ fn classes_with(classes: Classes, rank: u64, place: u32) -> Classes
 
 // A scan with slot s joined.
 fn joined(scan: Scan, slot: Summary, s: u32) -> Scan
-    requires { slotsCounted scan.classes < 65536 }
+    requires { slots_counted scan.classes < 65536 }
     ensures { ScanWith scan slot s result }
 {
     Scan {

@@ -12,63 +12,63 @@ use lib.Seq.{take-append-le, take-length}
 use borrow.Author.Tests.{lt-ltb, le-ltb, le-leb, lt-leb, leb-true, ltb-false, eq-eqb, ne_eqb}
 use Rattle.words.specs.Word.{word}
 use Rattle.words.proofs.Laws.{word-take}
-use Rattle.prelude.proofs.Choice.{pick_true, pick-false, true-false}
-use Rattle.report_text.specs.Report.{outside, imageSize, wholeSize}
+use Rattle.prelude.proofs.Choice.{pick_true, pick_false, true-false}
+use Rattle.report_text.specs.Report.{outside, image_size, whole_size}
 use Rattle.report_text.specs.Blocks.{readable}
 
 -- ---- by word 0
 
-pub inside-range : (n : ℕ) (b : Bool) → b ≡ outside n → b ≡ false → (2 ≤ n) × (n ≤ 511)
+pub inside_range : (n : ℕ) (b : Bool) → b ≡ outside n → b ≡ false → (2 ≤ n) × (n ≤ 511)
 unfolding outside
-inside-range n b e d = go (ltb n 2) refl
+inside_range n b e d = go (ltb n 2) refl
   where
     go : (x : Bool) → ltb n 2 ≡ x → (2 ≤ n) × (n ≤ 511)
     go true p = absurd (true-false (pick_true (ltb n 2) _ _ p) (sym e ∙ d))
-    go false p = (ltb-false n 2 p, ltb-false 511 n (sym (pick-false (ltb n 2) _ _ p) ∙ sym e ∙ d))
+    go false p = (ltb-false n 2 p, ltb-false 511 n (sym (pick_false (ltb n 2) _ _ p) ∙ sym e ∙ d))
 
 module _ (input : List ℕ) where
-  pub size-short : length input < 8 → 0 ≡ imageSize input
-  unfolding imageSize
-  size-short h = sym (pick_true _ _ _ (lt-ltb (length input) 8 h))
+  pub size_short : length input < 8 → 0 ≡ image_size input
+  unfolding image_size
+  size_short h = sym (pick_true _ _ _ (lt-ltb (length input) 8 h))
 
   module _ (h : 8 ≤ length input) (n : ℕ) (w : n ≡ word input 0) (b : Bool) (e : b ≡ outside n) where
-    size-by : imageSize input ≡ cond (outside n) 0 (128 * (n + 1))
-    unfolding imageSize
+    size-by : image_size input ≡ cond (outside n) 0 (128 * (n + 1))
+    unfolding image_size
     size-by =
-        pick-false _ _ _ (le-ltb (length input) 8 h) ∙ ap (λ (x : ℕ). cond (outside x) 0 (128 * (x + 1))) (sym w)
+        pick_false _ _ _ (le-ltb (length input) 8 h) ∙ ap (λ (x : ℕ). cond (outside x) 0 (128 * (x + 1))) (sym w)
 
-    pub size-outside : b ≡ true → 0 ≡ imageSize input
-    size-outside d = sym (size-by ∙ pick_true (outside n) _ _ (sym e ∙ d))
+    pub size_outside : b ≡ true → 0 ≡ image_size input
+    size_outside d = sym (size-by ∙ pick_true (outside n) _ _ (sym e ∙ d))
 
-    pub size-inside : b ≡ false → 128 * (n + 1) ≡ imageSize input
-    size-inside d = sym (size-by ∙ pick-false (outside n) _ _ (sym e ∙ d))
+    pub size_inside : b ≡ false → 128 * (n + 1) ≡ image_size input
+    size_inside d = sym (size-by ∙ pick_false (outside n) _ _ (sym e ∙ d))
 
 -- ---- an image that may be read
 
 module _ (input : List ℕ) (left : ℕ) where
-  pub readable-none : left ≡ 0 → 0 ≡ readable left input
+  pub readable_none : left ≡ 0 → 0 ≡ readable left input
   unfolding readable
-  readable-none e = sym (pick_true (eqb left 0) _ _ (eq-eqb left 0 e))
+  readable_none e = sym (pick_true (eqb left 0) _ _ (eq-eqb left 0 e))
 
-  pub no_size : imageSize input ≡ 0 → readable left input ≡ 0
-  unfolding readable wholeSize
-  no_size z = go (eqb left 0) (leb (imageSize input) (length input))
+  pub no_size : image_size input ≡ 0 → readable left input ≡ 0
+  unfolding readable whole_size
+  no_size z = go (eqb left 0) (leb (image_size input) (length input))
     where
-      go : (x y : Bool) → cond x 0 (cond y (imageSize input) 0) ≡ 0
+      go : (x y : Bool) → cond x 0 (cond y (image_size input) 0) ≡ 0
       go true y = refl
       go false true = z
       go false false = refl
 
-  module _ (some : left ≡ 0 → ⊥) (size : ℕ) (e : size ≡ imageSize input) where
-    pub readable-part : length input < size → 0 ≡ readable left input
-    unfolding readable wholeSize
-    readable-part h =
-        sym (pick-false (eqb left 0) _ _ (ne_eqb left 0 some) ∙ pick-false _ _ _ (lt-leb (imageSize input) (length input) (omega arith)))
+  module _ (some : left ≡ 0 → ⊥) (size : ℕ) (e : size ≡ image_size input) where
+    pub readable_part : length input < size → 0 ≡ readable left input
+    unfolding readable whole_size
+    readable_part h =
+        sym (pick_false (eqb left 0) _ _ (ne_eqb left 0 some) ∙ pick_false _ _ _ (lt-leb (image_size input) (length input) (omega arith)))
 
-    pub readable-whole : size ≤ length input → size ≡ readable left input
-    unfolding readable wholeSize
-    readable-whole h =
-        e ∙ sym (pick-false (eqb left 0) _ _ (ne_eqb left 0 some) ∙ pick_true _ _ _ (le-leb (imageSize input) (length input) (omega arith)))
+    pub readable_whole : size ≤ length input → size ≡ readable left input
+    unfolding readable whole_size
+    readable_whole h =
+        e ∙ sym (pick_false (eqb left 0) _ _ (ne_eqb left 0 some) ∙ pick_true _ _ _ (le-leb (image_size input) (length input) (omega arith)))
 
 -- what an image that may be read is
 pub record Image (left size : ℕ) (input : List ℕ) : Type 0 where
@@ -78,32 +78,32 @@ pub record Image (left size : ℕ) (input : List ℕ) : Type 0 where
   pub high : slots ≤ 511
   pub size_is : size ≡ 128 * (slots + 1)
   pub inside : size ≤ length input
-  pub whole : size ≡ wholeSize input
+  pub whole : size ≡ whole_size input
 
 module _ (input : List ℕ) where
-  sized : 0 < imageSize input → (n : ℕ) × (2 ≤ n) × (n ≤ 511) × (imageSize input ≡ 128 * (n + 1)) × (8 ≤ length input)
+  sized : 0 < image_size input → (n : ℕ) × (2 ≤ n) × (n ≤ 511) × (image_size input ≡ 128 * (n + 1)) × (8 ≤ length input)
   sized p =
-      by_cases (dec_lt (length input) 8) (λ h. absurd (omega (arith, size-short input h)))
+      by_cases (dec_lt (length input) 8) (λ h. absurd (omega (arith, size_short input h)))
       (λ h. go (omega arith) (outside (word input 0)) refl)
     where
       go : 8 ≤ length input → (b : Bool) → b ≡ outside (word input 0)
-          → (n : ℕ) × (2 ≤ n) × (n ≤ 511) × (imageSize input ≡ 128 * (n + 1)) × (8 ≤ length input)
-      go h true e = absurd (omega (arith, size-outside input h (word input 0) refl true e refl))
+          → (n : ℕ) × (2 ≤ n) × (n ≤ 511) × (image_size input ≡ 128 * (n + 1)) × (8 ≤ length input)
+      go h true e = absurd (omega (arith, size_outside input h (word input 0) refl true e refl))
       go h false e =
-          let r = inside-range (word input 0) false e refl in
-          (word input 0, r.0, r.1, sym (size-inside input h (word input 0) refl false e refl), h)
+          let r = inside_range (word input 0) false e refl in
+          (word input 0, r.0, r.1, sym (size_inside input h (word input 0) refl false e refl), h)
 
-  pub readable-image : (left size : ℕ) → size ≡ readable left input → 0 < size → Image left size input
-  unfolding readable wholeSize
-  readable-image left size e p = go (eqb left 0) refl (leb (imageSize input) (length input)) refl
+  pub readable_image : (left size : ℕ) → size ≡ readable left input → 0 < size → Image left size input
+  unfolding readable whole_size
+  readable_image left size e p = go (eqb left 0) refl (leb (image_size input) (length input)) refl
     where
-      go : (x : Bool) → eqb left 0 ≡ x → (y : Bool) → leb (imageSize input) (length input) ≡ y → Image left size input
-      go true a y b = absurd (omega (arith, e ∙ pick_true (eqb left 0) 0 (wholeSize input) a))
+      go : (x : Bool) → eqb left 0 ≡ x → (y : Bool) → leb (image_size input) (length input) ≡ y → Image left size input
+      go true a y b = absurd (omega (arith, e ∙ pick_true (eqb left 0) 0 (whole_size input) a))
       go false a false b =
-          absurd (omega (arith, e ∙ pick-false (eqb left 0) 0 (wholeSize input) a ∙ pick-false (leb (imageSize input) (length input)) (imageSize input) 0 b))
+          absurd (omega (arith, e ∙ pick_false (eqb left 0) 0 (whole_size input) a ∙ pick_false (leb (image_size input) (length input)) (image_size input) 0 b))
       go false a true b =
-          let whole = e ∙ pick-false (eqb left 0) 0 (wholeSize input) a in
-          let is = whole ∙ pick_true (leb (imageSize input) (length input)) (imageSize input) 0 b in
+          let whole = e ∙ pick_false (eqb left 0) 0 (whole_size input) a in
+          let is = whole ∙ pick_true (leb (image_size input) (length input)) (image_size input) 0 b in
           let s = sized (omega (arith, is)) in
           record {
             some_left = positive left a;
@@ -111,7 +111,7 @@ module _ (input : List ℕ) where
             low = s.1;
             high = s.2;
             size_is = is ∙ s.3;
-            inside = omega (arith, is, leb-true (imageSize input) (length input) b);
+            inside = omega (arith, is, leb-true (image_size input) (length input) b);
             whole = whole;
           }
         where
@@ -120,11 +120,11 @@ module _ (input : List ℕ) where
 
   -- ---- with more input after it
 
-  pub size-more : (more : List ℕ) → 8 ≤ length input → imageSize (input ++ more) ≡ imageSize input
-  unfolding imageSize
-  size-more more h =
-      pick-false _ _ _ (le-ltb (length (input ++ more)) 8 (omega (arith, length-append input more)))
-      ∙ ap (λ (x : ℕ). cond (outside x) 0 (128 * (x + 1))) first ∙ sym (pick-false _ _ _ (le-ltb (length input) 8 h))
+  pub size_more : (more : List ℕ) → 8 ≤ length input → image_size (input ++ more) ≡ image_size input
+  unfolding image_size
+  size_more more h =
+      pick_false _ _ _ (le-ltb (length (input ++ more)) 8 (omega (arith, length-append input more)))
+      ∙ ap (λ (x : ℕ). cond (outside x) 0 (128 * (x + 1))) first ∙ sym (pick_false _ _ _ (le-ltb (length input) 8 h))
     where
       front : take (length input) (input ++ more) ≡ input
       front = take-append-le (length input) input more (omega arith) ∙ take-length input
@@ -132,19 +132,19 @@ module _ (input : List ℕ) where
       first : word (input ++ more) 0 ≡ word input 0
       first = sym (word-take (input ++ more) (length input) 0 (omega arith)) ∙ ap (λ (x : List ℕ). word x 0) front
 
-  pub whole-more : (left size : ℕ) (more : List ℕ) → Image left size input → wholeSize (input ++ more) ≡ size
-  unfolding wholeSize
-  whole-more left size more g =
+  pub whole_more : (left size : ℕ) (more : List ℕ) → Image left size input → whole_size (input ++ more) ≡ size
+  unfolding whole_size
+  whole_more left size more g =
       ap₂ (λ (x y : ℕ). cond (leb x y) x 0) same refl ∙ pick_true _ _ _
       (le-leb size (length (input ++ more)) (omega (arith, g.inside, length-append input more)))
     where
-      here : imageSize input ≡ size
-      here = go (leb (imageSize input) (length input)) refl
+      here : image_size input ≡ size
+      here = go (leb (image_size input) (length input)) refl
         where
-          go : (y : Bool) → leb (imageSize input) (length input) ≡ y → imageSize input ≡ size
-          go true b = sym (g.whole ∙ pick_true (leb (imageSize input) (length input)) (imageSize input) 0 b)
+          go : (y : Bool) → leb (image_size input) (length input) ≡ y → image_size input ≡ size
+          go true b = sym (g.whole ∙ pick_true (leb (image_size input) (length input)) (image_size input) 0 b)
           go false b =
-              absurd (omega (arith, g.size_is, g.whole ∙ pick-false (leb (imageSize input) (length input)) (imageSize input) 0 b))
+              absurd (omega (arith, g.size_is, g.whole ∙ pick_false (leb (image_size input) (length input)) (image_size input) 0 b))
 
-      same : imageSize (input ++ more) ≡ size
-      same = size-more more (omega (arith, g.size_is, g.low, g.inside)) ∙ here
+      same : image_size (input ++ more) ≡ size
+      same = size_more more (omega (arith, g.size_is, g.low, g.inside)) ∙ here

@@ -5,8 +5,8 @@
 use Rattle.std.specs.Prelude.{Bool, true, cond, List, [], ◌∷◌, ◌++◌, ℕ, zero, suc, ◌+◌, ◌*◌, ◌/◌, eqb, ltb, leb, length, get_or, take, drop}
 use Rattle.words.specs.Word.{word}
 use Rattle.prelude.specs.Answer.{Answer, gives, absent, refused}
-use Rattle.text.specs.Output.{no, text, lineText}
-use Rattle.interface.specs.Set.{countSays}
+use Rattle.text.specs.Output.{no, text, line_text}
+use Rattle.interface.specs.Set.{count_says}
 use Rattle.report_text.specs.declared.SlotTotals.{SlotTotals}
 
 -- ---- an image
@@ -16,32 +16,32 @@ unfoldable pub outside : ℕ → Bool
 outside n = cond (ltb n 2) true (ltb 511 n)
 
 -- "Word 0 of each gives its length"; 0 where it is outside, or is not there whole
-unfoldable pub imageSize : (input : List ℕ) → ℕ
-imageSize input = cond (ltb (length input) 8) 0 (cond (outside (word input 0)) 0 (128 * (word input 0 + 1)))
+unfoldable pub image_size : (input : List ℕ) → ℕ
+image_size input = cond (ltb (length input) 8) 0 (cond (outside (word input 0)) 0 (128 * (word input 0 + 1)))
 
 -- the input begins with a whole image: its size, else 0
-unfoldable pub wholeSize : (input : List ℕ) → ℕ
-wholeSize input = cond (leb (imageSize input) (length input)) (imageSize input) 0
+unfoldable pub whole_size : (input : List ℕ) → ℕ
+whole_size input = cond (leb (image_size input) (length input)) (image_size input) 0
 
 -- the six counts of an image or recovery's refusal, with an index of one head and, for the 128 × (N + 1) bytes of the
 -- image, N + 1 entries
-unfoldable pub imageAnswer : (image : List ℕ) → Answer
-imageAnswer image = countSays 1 image 1 (length image / 128)
+unfoldable pub image_answer : (image : List ℕ) → Answer
+image_answer image = count_says 1 image 1 (length image / 128)
 
 -- its line: "the six in this order on a line", or "`no` and the number"
-unfoldable pub answerText : Answer → List ℕ
-answerText (gives values) = lineText values
-answerText absent = []
-answerText (refused number) = text (no number)
+unfoldable pub answer_text : Answer → List ℕ
+answer_text (gives values) = line_text values
+answer_text absent = []
+answer_text (refused number) = text (no number)
 
 -- ---- the totals
 
-unfoldable pub noTotals : SlotTotals
-noTotals = record { live = 0; hidden = 0; removes = 0; void = 0; broken = 0; empty = 0 }
+unfoldable pub no_totals : SlotTotals
+no_totals = record { live = 0; hidden = 0; removes = 0; void = 0; broken = 0; empty = 0 }
 
 -- "totals of the accepted ones": with the six of an accepted image
-unfoldable pub totalsWith : Answer → SlotTotals → SlotTotals
-totalsWith (gives values) t =
+unfoldable pub totals_with : Answer → SlotTotals → SlotTotals
+totals_with (gives values) t =
     record {
       live = t.live + get_or values 0 0;
       hidden = t.hidden + get_or values 1 0;
@@ -50,28 +50,28 @@ totalsWith (gives values) t =
       broken = t.broken + get_or values 4 0;
       empty = t.empty + get_or values 5 0;
     }
-totalsWith absent t = t
-totalsWith (refused number) t = t
+totals_with absent t = t
+totals_with (refused number) t = t
 
 -- "a last line of totals"
-unfoldable pub totalsText : SlotTotals → List ℕ
-totalsText t = lineText (t.live ∷ t.hidden ∷ t.removes ∷ t.void ∷ t.broken ∷ t.empty ∷ [])
+unfoldable pub totals_text : SlotTotals → List ℕ
+totals_text t = line_text (t.live ∷ t.hidden ∷ t.removes ∷ t.void ∷ t.broken ∷ t.empty ∷ [])
 
 -- ---- the whole input
 
 -- "prints `no 1` and ends the reading": where images may still be read and input is left that does not begin with a
 -- whole one
-unfoldable pub unreadText : (left input : ℕ) → List ℕ
-unreadText left input = cond (eqb left 0) [] (cond (eqb input 0) [] (text (no 1)))
+unfoldable pub unread_text : (left input : ℕ) → List ℕ
+unread_text left input = cond (eqb left 0) [] (cond (eqb input 0) [] (text (no 1)))
 
 -- the output for an input of which at most `left` images are still read, with these totals so far
-unfoldable pub reportFrom : (left : ℕ) → (input : List ℕ) → SlotTotals → List ℕ
-reportFrom zero input t = unreadText 0 (length input) ++ totalsText t
-reportFrom (suc left) input t =
-    cond (eqb (wholeSize input) 0) (unreadText (suc left) (length input) ++ totalsText t)
-    (answerText (imageAnswer (take (wholeSize input) input))
-    ++ reportFrom left (drop (wholeSize input) input) (totalsWith (imageAnswer (take (wholeSize input) input)) t))
+unfoldable pub report_from : (left : ℕ) → (input : List ℕ) → SlotTotals → List ℕ
+report_from zero input t = unread_text 0 (length input) ++ totals_text t
+report_from (suc left) input t =
+    cond (eqb (whole_size input) 0) (unread_text (suc left) (length input) ++ totals_text t)
+    (answer_text (image_answer (take (whole_size input) input))
+    ++ report_from left (drop (whole_size input) input) (totals_with (image_answer (take (whole_size input) input)) t))
 
 -- "up to a million images"
-unfoldable pub reportOf : (input : List ℕ) → List ℕ
-reportOf input = reportFrom 1000000 input noTotals
+unfoldable pub report_of : (input : List ℕ) → List ℕ
+report_of input = report_from 1000000 input no_totals

@@ -1,8 +1,8 @@
 // One image: its size, its line, and the totals with its counts.
 ghost use Rattle.std.specs.Prelude.{◌≡◌, ℕ, ◌+◌, ◌^◌};
 ghost use Rattle.prelude.specs.Answer.{gives};
-ghost use Rattle.interface.specs.Set.{countValues};
-ghost use Rattle.report_text.specs.Report.{totalsWith};
+ghost use Rattle.interface.specs.Set.{count_values};
+ghost use Rattle.report_text.specs.Report.{totals_with};
 ghost use Rattle.report_text.specs.Blocks.{Below};
 ghost use Rattle.report_text.specs.inner.Images.{Reportable, ImageReported};
 
@@ -13,7 +13,7 @@ use report_text::{ImageReport, ReportProgress, SlotTotals};
 // The totals with the counts of one more image.
 fn add_counts(t: SlotTotals, c: SlotCounts) -> SlotTotals
     requires { Below t (2 ^ 63) }
-    ensures { (result ≡ totalsWith (gives (countValues c)) t) × ((bound : ℕ) → Below t bound → Below result (bound + 2 ^ 32)) }
+    ensures { (result ≡ totals_with (gives (count_values c)) t) × ((bound : ℕ) → Below t bound → Below result (bound + 2 ^ 32)) }
 {
     SlotTotals {
         live: t.live + c.live as u64,

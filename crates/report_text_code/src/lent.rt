@@ -1,12 +1,12 @@
 // What the functions of the report are lent, and the progress from which they go on.
 ghost use Rattle.std.specs.Prelude.{◌≡◌};
-ghost use Rattle.report_text.specs.Blocks.{isBelow, isBounded, isLent};
+ghost use Rattle.report_text.specs.Blocks.{is_below, is_bounded, is_lent};
 
 use report_text::{ReportProgress, SlotTotals};
 
 // Is no total above the bound?
 fn is_below(t: SlotTotals, bound: u64) -> bool
-    ensures result { result ≡ isBelow t bound }
+    ensures result { result ≡ is_below t bound }
 {
     if bound < t.live {
         return false;
@@ -28,7 +28,7 @@ fn is_below(t: SlotTotals, bound: u64) -> bool
 
 // Can the totals be those of the images read so far?
 fn is_bounded(p: ReportProgress) -> bool
-    ensures result { result ≡ isBounded p }
+    ensures result { result ≡ is_bounded p }
 {
     if 1000000 < p.left {
         return false;
@@ -39,7 +39,7 @@ fn is_bounded(p: ReportProgress) -> bool
 
 // Can the first bytes of a buffer of this size be reported into so much room?
 pub fn is_lent(have: usize, size: usize, room: usize, p: ReportProgress) -> bool
-    ensures result { result ≡ isLent have size room p }
+    ensures result { result ≡ is_lent have size room p }
 {
     if size < have {
         return false;

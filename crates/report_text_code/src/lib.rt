@@ -4,8 +4,8 @@ mod lent;
 mod storing;
 
 ghost use Rattle.std.specs.Prelude.{◌≡◌, ◌≤◌, length, take};
-ghost use Rattle.report_text.specs.Report.{noTotals};
-ghost use Rattle.report_text.specs.Blocks.{TotalsBounded, BlockReported, FrontAnswered, lastText};
+ghost use Rattle.report_text.specs.Report.{no_totals};
+ghost use Rattle.report_text.specs.Blocks.{TotalsBounded, BlockReported, FrontAnswered, last_text};
 ghost use Rattle.report_text.specs.inner.Images.{BlockLent};
 
 use crate::image::report_image;
@@ -17,7 +17,7 @@ use report_text_input_code::size::readable_size;
 
 // Before the first image.
 pub fn start_report() -> ReportProgress
-    ensures result { (result ≡ record { left = 1000000; totals = noTotals }) × TotalsBounded result }
+    ensures result { (result ≡ record { left = 1000000; totals = no_totals }) × TotalsBounded result }
 {
     ReportProgress {
         left: 1000000,
@@ -80,7 +80,7 @@ pub fn report_front(input: &mut [u8], have: usize, p: ReportProgress, out: &mut 
 // The end of the input is reported: its whole images, `no 1` where something is left, and the totals. Returned is how
 // many bytes of output there are: none where the sizes or the progress are none that a report can go on with.
 pub fn report_last(input: &[u8], p: ReportProgress, out: &mut [u8]) -> usize
-    ensures printed { take result out.new ≡ lastText input.now (length out.old) p }
+    ensures printed { take result out.new ≡ last_text input.now (length out.old) p }
     ensures inside { result ≤ length out.new }
 {
     if !is_lent(input.len(), input.len(), out.len(), p) {

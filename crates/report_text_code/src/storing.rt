@@ -1,9 +1,9 @@
 // The lines of the report.
 ghost use Rattle.std.specs.Prelude.{◌+◌, ◌≤◌, length};
-ghost use Rattle.text.specs.Output.{no, text, lineText};
+ghost use Rattle.text.specs.Output.{no, text, line_text};
 ghost use Rattle.text.specs.inner.Output.{Wrote};
-ghost use Rattle.interface.specs.Set.{countValues};
-ghost use Rattle.report_text.specs.Report.{totalsText, unreadText};
+ghost use Rattle.interface.specs.Set.{count_values};
+ghost use Rattle.report_text.specs.Report.{totals_text, unread_text};
 
 use orderset::SlotCounts;
 use report_text::SlotTotals;
@@ -12,7 +12,7 @@ use text_code::output::{store_numbers, store_one};
 // The six counts of an image.
 pub fn store_counts(c: SlotCounts, out: &mut [u8], at: usize) -> usize
     requires { at + 126 ≤ length out.old }
-    ensures result { Wrote out.old out.new at result (lineText (countValues c)) }
+    ensures result { Wrote out.old out.new at result (line_text (count_values c)) }
 {
     store_numbers(
         out,
@@ -39,7 +39,7 @@ pub fn store_refusal(number: u32, out: &mut [u8], at: usize) -> usize
 // The totals.
 pub fn store_totals(t: SlotTotals, out: &mut [u8], at: usize) -> usize
     requires { at + 126 ≤ length out.old }
-    ensures result { Wrote out.old out.new at result (totalsText t) }
+    ensures result { Wrote out.old out.new at result (totals_text t) }
 {
     store_numbers(
         out,
@@ -52,7 +52,7 @@ pub fn store_totals(t: SlotTotals, out: &mut [u8], at: usize) -> usize
 // `no 1` where images may still be read and bytes are left.
 pub fn store_unread(left: u32, bytes: usize, out: &mut [u8], at: usize) -> usize
     requires { at + 24 ≤ length out.old }
-    ensures result { Wrote out.old out.new at result (unreadText left bytes) }
+    ensures result { Wrote out.old out.new at result (unread_text left bytes) }
 {
     if left == 0 {
         return at;

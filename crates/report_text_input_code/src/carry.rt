@@ -1,12 +1,12 @@
 // What is left of a block: whether it ends the reading, and carrying it over to the front of the buffer.
 ghost use Rattle.std.specs.Prelude.{◌≡◌, ℕ, ◌+◌, ◌≤◌, ◌<◌, length, get_or};
-ghost use Rattle.report_text.specs.Blocks.{endsReading};
+ghost use Rattle.report_text.specs.Blocks.{ends_reading};
 
 use crate::size::image_size;
 
 // Does the reading end here, whatever follows?
 pub fn ends_reading(rest: &[u8], left: u32) -> bool
-    ensures result { result ≡ endsReading left rest.now }
+    ensures result { result ≡ ends_reading left rest.now }
 {
     if left == 0 {
         return true;

@@ -1,6 +1,6 @@
 // The size of an image at the start of the input.
 ghost use Rattle.std.specs.Prelude.{◌≡◌, ◌+◌};
-ghost use Rattle.report_text.specs.Report.{outside, imageSize};
+ghost use Rattle.report_text.specs.Report.{outside, image_size};
 ghost use Rattle.report_text.specs.Blocks.{readable};
 
 use words_code::read_word;
@@ -17,7 +17,7 @@ fn is_outside(n: u64) -> bool
 
 // The size of the image at the start of the input, by its word 0; 0 where that is outside, or is not there whole.
 pub fn image_size(input: &[u8]) -> usize
-    ensures result { result ≡ imageSize input.now }
+    ensures result { result ≡ image_size input.now }
 {
     if input.len() < 8 {
         return 0;

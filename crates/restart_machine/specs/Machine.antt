@@ -3,9 +3,9 @@
 use Rattle.std.specs.Prelude.{◌≡◌, Bool, true, false, cond, not, ◌&&◌, ℕ, ◌+◌, ◌*◌, ◌/◌, ◌≤◌, eqb, length}
 use Rattle.std.proofs.Math.Option.{Option, none, some, Option·elim}
 use mathlib.Core.List.{List, [], ◌∷◌, ◌++◌, foldl}
-use Rattle.prelude.specs.Filter.{filter, isAmong}
+use Rattle.prelude.specs.Filter.{filter, is_among}
 use Rattle.prelude.specs.Members.{All}
-use Rattle.stores.specs.Store.{Store, played, standing, notStanding, allStand}
+use Rattle.stores.specs.Store.{Store, played, standing, not_standing, all_stand}
 
 -- ---- the memory
 
@@ -23,31 +23,31 @@ unfoldable pub seen : Memory → List ℕ
 seen mem = played mem.pending mem.durable
 
 -- of each line n the first `counts n` pending stores have become durable
-unfoldable pub writtenBack : (counts : ℕ → ℕ) → Memory → Memory
-writtenBack counts mem =
-    record { durable = played (standing counts mem.pending) mem.durable; pending = notStanding counts mem.pending; flushed = mem.flushed }
+unfoldable pub written_back : (counts : ℕ → ℕ) → Memory → Memory
+written_back counts mem =
+    record { durable = played (standing counts mem.pending) mem.durable; pending = not_standing counts mem.pending; flushed = mem.flushed }
 
 -- a power cut: of each line n the first `counts n` pending stores have become durable, and the others are lost
-unfoldable pub cutOff : (counts : ℕ → ℕ) → Memory → Memory
-cutOff counts mem = record { durable = (writtenBack counts mem).durable; pending = []; flushed = [] }
+unfoldable pub cut_off : (counts : ℕ → ℕ) → Memory → Memory
+cut_off counts mem = record { durable = (written_back counts mem).durable; pending = []; flushed = [] }
 
 -- no flush is counted upon any more: so it is after a fence, and after a kill, since the fence of another program says
 -- nothing of the killed one's flushes
-unfoldable pub noneFlushed : Memory → Memory
-noneFlushed mem = record { durable = mem.durable; pending = mem.pending; flushed = [] }
+unfoldable pub none_flushed : Memory → Memory
+none_flushed mem = record { durable = mem.durable; pending = mem.pending; flushed = [] }
 
 -- a store. A flush of its line before it says nothing of it
-unfoldable pub afterStore : Store → Memory → Memory
-afterStore s mem =
+unfoldable pub after_store : Store → Memory → Memory
+after_store s mem =
     record { durable = mem.durable; pending = mem.pending ++ (s ∷ []); flushed = filter (λ k. not (eqb k (s.word / 8))) mem.flushed }
 
 -- a flush of line n: it makes nothing durable by itself
-unfoldable pub afterFlush : (n : ℕ) → Memory → Memory
-afterFlush n mem = record { durable = mem.durable; pending = mem.pending; flushed = n ∷ mem.flushed }
+unfoldable pub after_flush : (n : ℕ) → Memory → Memory
+after_flush n mem = record { durable = mem.durable; pending = mem.pending; flushed = n ∷ mem.flushed }
 
 -- a fence: every store of a flushed line is durable when it has ended
-unfoldable pub afterFence : Memory → Memory
-afterFence mem = noneFlushed (writtenBack (λ n. cond (isAmong n mem.flushed) (length mem.pending) 0) mem)
+unfoldable pub after_fence : Memory → Memory
+after_fence mem = none_flushed (written_back (λ n. cond (is_among n mem.flushed) (length mem.pending) 0) mem)
 
 -- ---- the program
 
@@ -68,20 +68,20 @@ Flushing = List ℕ × Bool
 -- what a program does for durability: before recovery of an image of some length, after recovery's invalidating stores,
 -- and after the stores of a request
 pub record Duties : Type 0 where
-  pub beforeRecovery : (len : ℕ) → Flushing
-  pub afterRecovery : List Store → Flushing
-  pub afterRequest : List Store → Flushing
+  pub before_recovery : (len : ℕ) → Flushing
+  pub after_recovery : List Store → Flushing
+  pub after_request : List Store → Flushing
 
 -- it covers these stores: the line of each is flushed, and a fence follows
 abbrev pub Covers : Flushing → List Store → Type 0
-Covers flushing ss = All (λ (s : Store). isAmong (s.word / 8) flushing.0 ≡ true) ss × (flushing.1 ≡ true)
+Covers flushing ss = All (λ (s : Store). is_among (s.word / 8) flushing.0 ≡ true) ss × (flushing.1 ≡ true)
 
 -- THE DUTIES ARE DONE: before recovery the line of every store inside the image is flushed, after stores the line of
 -- each; then comes a fence
 pub record Sufficient (d : Duties) : Type 0 where
-  pub before-recovery : (len : ℕ) (ss : List Store) → All (λ (s : Store). 8 * s.word + 8 ≤ len) ss → Covers (d.beforeRecovery len) ss
-  pub after-recovery : (ss : List Store) → Covers (d.afterRecovery ss) ss
-  pub after-request : (ss : List Store) → Covers (d.afterRequest ss) ss
+  pub before-recovery : (len : ℕ) (ss : List Store) → All (λ (s : Store). 8 * s.word + 8 ≤ len) ss → Covers (d.before_recovery len) ss
+  pub after-recovery : (ss : List Store) → Covers (d.after_recovery ss) ss
+  pub after-request : (ss : List Store) → Covers (d.after_request ss) ss
 
 -- what follows the stores, the flushes and the fence: recovery, the first request, or an answer
 pub data Continuation (Lent Held : Type 0) : Type 0 where
@@ -97,11 +97,11 @@ pub data Program (Lent Held : Type 0) : Type 0 where
   idle : Held → Program Lent Held
 
 -- has it made all its stores?
-unfoldable pub allMade : {Lent Held : Type 0} → Program Lent Held → Bool
-allMade off = true
-allMade (busy [] flushing c) = true
-allMade (busy (s ∷ ss) flushing c) = false
-allMade (idle held) = true
+unfoldable pub all_made : {Lent Held : Type 0} → Program Lent Held → Bool
+all_made off = true
+all_made (busy [] flushing c) = true
+all_made (busy (s ∷ ss) flushing c) = false
+all_made (idle held) = true
 
 -- ---- the history of the requests
 
@@ -135,8 +135,8 @@ decide outcome h = record { requests = h.requests; decided = Option·elim h.unde
 pub data Move (Lent Request : Type 0) : Type 0 where
   start : Lent → Move Lent Request
   ask : Request → Move Lent Request
-  next-step : Move Lent Request
-  write-back : (counts : ℕ → ℕ) → Move Lent Request
+  next_step : Move Lent Request
+  write_back : (counts : ℕ → ℕ) → Move Lent Request
   kill : Move Lent Request
   cut : (counts : ℕ → ℕ) → Move Lent Request
 
@@ -150,7 +150,7 @@ machine mem prog h = record { memory = mem; program = prog; history = h }
 
 module _ {Lent Held Request : Type 0} (d : Duties) (library : Library Lent Held Request) where
   unfoldable pub started : Memory → Program Lent Held → Lent → Program Lent Held
-  started mem off lent = busy [] (d.beforeRecovery (length mem.durable)) (recovering lent)
+  started mem off lent = busy [] (d.before_recovery (length mem.durable)) (recovering lent)
   started mem (busy ss flushing c) lent = busy ss flushing c
   started mem (idle held) lent = idle held
 
@@ -159,22 +159,22 @@ module _ {Lent Held Request : Type 0} (d : Duties) (library : Library Lent Held 
   asked mem (busy ss flushing c) h request = machine mem (busy ss flushing c) h
   asked mem (idle held) h request =
       let e : Effect Held = library.call (seen mem) held request in
-      machine mem (busy e.stores (d.afterRequest e.stores) (answering e.held))
+      machine mem (busy e.stores (d.after_request e.stores) (answering e.held))
       (record { requests = request ∷ h.requests; decided = h.decided; undecided = some (record { request = request; image = seen mem; held = held }) })
 
   -- recovery decides the undecided request, which stands, and so does an answer
   unfoldable pub continued : Memory → Continuation Lent Held → History Held Request → Machine Lent Held Request
   continued mem (recovering lent) h =
       let e : Effect Held = library.recovery (seen mem) lent in
-      machine mem (busy e.stores (d.afterRecovery e.stores) (opened e.held)) (decide (unanswered true) h)
+      machine mem (busy e.stores (d.after_recovery e.stores) (opened e.held)) (decide (unanswered true) h)
   continued mem (opened held) h = machine mem (idle held) h
   continued mem (answering held) h = machine mem (idle held) (decide answered h)
 
   unfoldable pub stepped : Memory → Program Lent Held → History Held Request → Machine Lent Held Request
   stepped mem off h = machine mem off h
-  stepped mem (busy (s ∷ ss) flushing c) h = machine (afterStore s mem) (busy ss flushing c) h
-  stepped mem (busy [] (n ∷ lines, fence) c) h = machine (afterFlush n mem) (busy [] (lines, fence) c) h
-  stepped mem (busy [] ([], true) c) h = machine (afterFence mem) (busy [] ([], false) c) h
+  stepped mem (busy (s ∷ ss) flushing c) h = machine (after_store s mem) (busy ss flushing c) h
+  stepped mem (busy [] (n ∷ lines, fence) c) h = machine (after_flush n mem) (busy [] (lines, fence) c) h
+  stepped mem (busy [] ([], true) c) h = machine (after_fence mem) (busy [] ([], false) c) h
   stepped mem (busy [] ([], false) c) h = continued mem c h
   stepped mem (idle held) h = machine mem (idle held) h
 
@@ -183,16 +183,16 @@ module _ {Lent Held Request : Type 0} (d : Duties) (library : Library Lent Held 
   unfoldable pub moved : Machine Lent Held Request → Move Lent Request → Machine Lent Held Request
   moved s (start lent) = machine s.memory (started s.memory s.program lent) s.history
   moved s (ask request) = asked s.memory s.program s.history request
-  moved s next-step = stepped s.memory s.program s.history
-  moved s (write-back counts) = machine (writtenBack counts s.memory) s.program s.history
-  moved s kill = machine (noneFlushed s.memory) off (cond (allMade s.program) s.history (decide (unanswered false) s.history))
+  moved s next_step = stepped s.memory s.program s.history
+  moved s (write_back counts) = machine (written_back counts s.memory) s.program s.history
+  moved s kill = machine (none_flushed s.memory) off (cond (all_made s.program) s.history (decide (unanswered false) s.history))
   moved s (cut counts) =
-      machine (cutOff counts s.memory) off (decide (unanswered (allMade s.program && allStand counts s.memory.pending)) s.history)
+      machine (cut_off counts s.memory) off (decide (unanswered (all_made s.program && all_stand counts s.memory.pending)) s.history)
 
   -- and after these moves
-  unfoldable pub movedBy : Machine Lent Held Request → List (Move Lent Request) → Machine Lent Held Request
-  movedBy s moves = foldl moved s moves
+  unfoldable pub moved_by : Machine Lent Held Request → List (Move Lent Request) → Machine Lent Held Request
+  moved_by s moves = foldl moved s moves
 
 -- no program, an image that is durable, and no request yet
-unfoldable pub atRest : {Lent Held Request : Type 0} → (image : List ℕ) → Machine Lent Held Request
-atRest image = machine (record { durable = image; pending = []; flushed = [] }) off (record { requests = []; decided = []; undecided = none })
+unfoldable pub at_rest : {Lent Held Request : Type 0} → (image : List ℕ) → Machine Lent Held Request
+at_rest image = machine (record { durable = image; pending = []; flushed = [] }) off (record { requests = []; decided = []; undecided = none })

@@ -4,40 +4,40 @@ use Prim.Native.Nat.{ℕ}
 use native.Mathlib.Omega.{arith}
 use lib.Dec.{ltb}
 use borrow.Author.Tests.{ltb-false}
-use Rattle.prelude.proofs.Refusals.{refuseIf-zero, orElse-zero}
+use Rattle.prelude.proofs.Refusals.{refuse_if_zero, or_else_zero}
 use Rattle.interface.specs.Set.{World, PlainMap}
 use Rattle.text.specs.Output.{cut}
-use Rattle.session.specs.Step.{StepResult, slotsFor, countFault, cutFault, lineFault, waitingFor, lineStep}
-use Rattle.session.specs.Stream.{stepAfter}
+use Rattle.session.specs.Step.{StepResult, slots_for, count_fault, cut_fault, line_fault, waiting_for, line_step}
+use Rattle.session.specs.Stream.{step_after}
 use Rattle.text.specs.declared.Line.TheVariants.{Cut}
 use Rattle.session.specs.declared.Waiting.TheVariants.{Counts}
-use Rattle.session.specs.Lines.{worldOf}
-use Rattle.session.specs.Rule.{faultAt, mapByLine, mapAfter, FewWait, few-wait, LineCorrect, cut_line}
+use Rattle.session.specs.Lines.{world_of}
+use Rattle.session.specs.Rule.{fault_at, map_by_line, map_after, FewWait, few_wait, LineCorrect, cut_line}
 use Rattle.session.proofs.defs.Keeps.{SetKeeps, Keeps}
 use Rattle.session.proofs.Sizes.{OneHead}
-use Rattle.session.proofs.Fronts.{image-front, heads-front, next-front, line-leaves}
+use Rattle.session.proofs.Fronts.{image_front, heads_front, next_front, line_leaves}
 
-few-counts : (a b : ℕ) → countFault a b ≡ 0 → FewWait (Counts a b)
-unfolding countFault
-few-counts a b z =
-    let first = refuseIf-zero (ltb 8 a) _ _ z (omega arith) in
-    let second = refuseIf-zero (ltb 8 b) _ _ first.1 (omega arith) in few-wait (ltb-false 8 a first.0) (ltb-false 8 b second.0)
+few_counts : (a b : ℕ) → count_fault a b ≡ 0 → FewWait (Counts a b)
+unfolding count_fault
+few_counts a b z =
+    let first = refuse_if_zero (ltb 8 a) _ _ z (omega arith) in
+    let second = refuse_if_zero (ltb 8 b) _ _ first.1 (omega arith) in few_wait (ltb-false 8 a first.0) (ltb-false 8 b second.0)
 
-cut-passed : (r : StepResult) (a b : ℕ) → faultAt r (Cut a b) ≡ 0 → countFault a b ≡ 0
-unfolding lineFault cutFault
-cut-passed r a b z = (orElse-zero _ _ (orElse-zero _ _ z).1).1
+cut_passed : (r : StepResult) (a b : ℕ) → fault_at r (Cut a b) ≡ 0 → count_fault a b ≡ 0
+unfolding line_fault cut_fault
+cut_passed r a b z = (or_else_zero _ _ (or_else_zero _ _ z).1).1
 
 module _ (Inv : World → PlainMap → Type 0) (r : StepResult) (m : PlainMap) (k : SetKeeps Inv r m) where
   abbrev n : ℕ
   n = r.session.n
 
-  same-sizes : OneHead n (worldOf r)
-  unfolding worldOf
-  same-sizes = record { image-size = image-front r n k.size; heads-size = heads-front r n k.size; next-size = next-front r n k.size }
+  same_sizes : OneHead n (world_of r)
+  unfolding world_of
+  same_sizes = record { image-size = image_front r n k.size; heads_size = heads_front r n k.size; next_size = next_front r n k.size }
 
-  pub cut-goes : (a b : ℕ) → faultAt r (Cut a b) ≡ 0 → LineCorrect r m (Cut a b) × Keeps Inv (stepAfter r (Cut a b)) (mapAfter r m (Cut a b))
-  unfolding slotsFor mapByLine lineStep waitingFor worldOf
-  cut-goes a b z =
-      let l = line-leaves r m (Cut a b) n refl z Inv (cut a b) (worldOf r) (Counts a b) m (record { answer = refl; session = refl; world = refl })
-      same-sizes (few-counts a b (cut-passed r a b z)) k.set refl in
+  pub cut_goes : (a b : ℕ) → fault_at r (Cut a b) ≡ 0 → LineCorrect r m (Cut a b) × Keeps Inv (step_after r (Cut a b)) (map_after r m (Cut a b))
+  unfolding slots_for map_by_line line_step waiting_for world_of
+  cut_goes a b z =
+      let l = line_leaves r m (Cut a b) n refl z Inv (cut a b) (world_of r) (Counts a b) m (record { answer = refl; session = refl; world = refl })
+      same_sizes (few_counts a b (cut_passed r a b z)) k.set refl in
       (cut_line z l.0, l.1)

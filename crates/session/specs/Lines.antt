@@ -3,10 +3,10 @@ use Rattle.std.specs.Prelude.{Bool, cond, List, [], ◌∷◌, ℕ, ◌+◌, ◌
 use Rattle.std.proofs.Math.Option.{Option, some, none}
 use Rattle.words.specs.Word.{word}
 use Rattle.prelude.specs.Answer.{Answer, gives, absent, refused}
-use Rattle.interface.specs.Set.{Store, World, Mode, Insert, Replace, Call, write, remove, get, locate, callResult, PlainMap, is_held, halfCounts, index_of}
+use Rattle.interface.specs.Set.{Store, World, Mode, Insert, Replace, Call, write, remove, get, locate, call_result, PlainMap, is_held, half_counts, index_of}
 use Rattle.interface.specs.Event.{Event, done, struck}
-use Rattle.text.specs.Output.{Printed, ok, notHeld, no}
-use Rattle.session.specs.Step.{StepResult, word_bytes, gotAs}
+use Rattle.text.specs.Output.{Printed, ok, not_held, no}
+use Rattle.session.specs.Step.{StepResult, word_bytes, got_as}
 use Rattle.text.specs.declared.Line.{Line}
 use Rattle.text.specs.declared.Line.TheVariants.{New, Write, Remove, Get, Cut, Bad}
 use Rattle.session.specs.declared.Waiting.{Waiting}
@@ -15,25 +15,25 @@ use Rattle.session.specs.declared.Session.{Session}
 
 -- the set of a session: "formats and recovers with one head", so it is the fronts of the lent image and index for its n
 -- slots and one head, with its state
-unfoldable pub worldOf : StepResult → World
-worldOf r =
+unfoldable pub world_of : StepResult → World
+world_of r =
     record {
       image = take (128 * (r.session.n + 1)) r.image;
       index = index_of (take 1 r.heads) (take (r.session.n + 1) r.next) r.session.state;
     }
 
 -- the session of a set of n slots with this cut waiting
-abbrev pub sessionOf : (n : ℕ) → World → Waiting → Session
-sessionOf n w waiting = record { n = n; state = w.index.state; waiting = waiting }
+abbrev pub session_of : (n : ℕ) → World → Waiting → Session
+session_of n w waiting = record { n = n; state = w.index.state; waiting = waiting }
 
 -- "The trial's p inserts or replaces according to what is held" (document 02, A.2)
-unfoldable pub modeFor : (held : Bool) → Mode
-modeFor held = cond held Replace Insert
+unfoldable pub mode_for : (held : Bool) → Mode
+mode_for held = cond held Replace Insert
 
 -- "`p K W` puts the 8-byte word W", "`r K` removes", "`g K`: `found W`", with 80 bytes of output; the other lines make
 -- no call. m is the plain map before it
 unfoldable pub call_in : PlainMap → Line → Option Call
-call_in m (Write key word) = some (write (modeFor (is_held (m key))) key (word_bytes word))
+call_in m (Write key word) = some (write (mode_for (is_held (m key))) key (word_bytes word))
 call_in m (Remove key) = some (remove key)
 call_in m (Get key) = some (get key (replicate 80 0))
 call_in m (New n) = none
@@ -44,32 +44,32 @@ call_in m Bad = none
 
 -- the counts strike a call that has stores; recovery is lent the index that the call left, and no cut comes among its
 -- invalidating stores
-unfoldable pub struckWith : Call → (a b : ℕ) → (heads next : List ℕ) → List Store → Event Call
-struckWith call a b heads next [] = done call
-struckWith call a b heads next (s ∷ ss) =
-    struck call (record { counts = halfCounts (s ∷ ss) a b; restart = record { rounds = []; lent = record { heads = heads; next = next } } })
+unfoldable pub struck_with : Call → (a b : ℕ) → (heads next : List ℕ) → List Store → Event Call
+struck_with call a b heads next [] = done call
+struck_with call a b heads next (s ∷ ss) =
+    struck call (record { counts = half_counts (s ∷ ss) a b; restart = record { rounds = []; lent = record { heads = heads; next = next } } })
 
 -- "the next accepted p, or r that stores, plays only A and B stores, and recovery runs"
-unfoldable pub eventIn : World → Waiting → Call → Event Call
-eventIn w Nothing call = done call
-eventIn w (Counts a b) call = struckWith call a b (callResult 1 w call).index.heads (callResult 1 w call).index.next (callResult 1 w call).stores
+unfoldable pub event_in : World → Waiting → Call → Event Call
+event_in w Nothing call = done call
+event_in w (Counts a b) call = struck_with call a b (call_result 1 w call).index.heads (call_result 1 w call).index.next (call_result 1 w call).stores
 
 -- the cut that waits after a call: one that has stores takes it
-unfoldable pub waitsOn : Waiting → List Store → Waiting
-waitsOn waiting [] = waiting
-waitsOn waiting (s ∷ ss) = Nothing
+unfoldable pub waits_on : Waiting → List Store → Waiting
+waits_on waiting [] = waiting
+waits_on waiting (s ∷ ss) = Nothing
 
 -- ---- what a call's line prints
 
 -- "`ok slot version`", "the same, or `absent`", and "A refusal prints `no` and its number"
-unfoldable pub changePrints : Answer → Printed
-changePrints (gives values) = ok values
-changePrints absent = notHeld
-changePrints (refused number) = no number
+unfoldable pub change_prints : Answer → Printed
+change_prints (gives values) = ok values
+change_prints absent = not_held
+change_prints (refused number) = no number
 
 -- by the call's answer and the output that it left: "`found W`" prints the word at the front of the output
-unfoldable pub printedFor : Call → Answer → (out : List ℕ) → Printed
-printedFor (write mode key value) answer out = changePrints answer
-printedFor (remove key) answer out = changePrints answer
-printedFor (get key lent) answer out = gotAs out answer
-printedFor (locate key) answer out = changePrints answer
+unfoldable pub printed_for : Call → Answer → (out : List ℕ) → Printed
+printed_for (write mode key value) answer out = change_prints answer
+printed_for (remove key) answer out = change_prints answer
+printed_for (get key lent) answer out = got_as out answer
+printed_for (locate key) answer out = change_prints answer

@@ -1,11 +1,11 @@
 -- One line of the session is carried out. Document 01, "The trial session".
 use Rattle.std.specs.Prelude.{List, ◌++◌, ℕ, ◌+◌, ◌*◌, ltb, length, take, drop, replicate}
-use Rattle.words.specs.Word.{word, setWord}
-use Rattle.prelude.specs.Refusal.{refuseIf, or_else, unlessRefused}
+use Rattle.words.specs.Word.{word, set_word}
+use Rattle.prelude.specs.Refusal.{refuse_if, or_else, unless_refused}
 use Rattle.prelude.specs.Answer.{Answer, gives, absent, refused}
-use Rattle.interface.specs.Set.{Store, wordNumbers, values, State, noState, storesIn, recoverResult, FormatResult, formatResult, Mode, Insert, Replace}
-use Rattle.interface.specs.Set.{writeResult, removeResult, getResult, locateResult, playing, playListResult, Recovery, CallResult, ReadOnlyResult, index_of}
-use Rattle.text.specs.Output.{Printed, ok, found, cut, notHeld, no}
+use Rattle.interface.specs.Set.{Store, word_numbers, values, State, no_state, stores_in, recover_result, FormatResult, format_result, Mode, Insert, Replace}
+use Rattle.interface.specs.Set.{write_result, remove_result, get_result, locate_result, playing, play_list_result, Recovery, CallResult, ReadOnlyResult, index_of}
+use Rattle.text.specs.Output.{Printed, ok, found, cut, not_held, no}
 use Rattle.text.specs.declared.Line.{Line}
 use Rattle.text.specs.declared.Line.TheVariants.{New, Write, Remove, Get, Cut, Bad}
 use Rattle.session.specs.declared.Waiting.{Waiting}
@@ -25,182 +25,182 @@ abbrev pub leaves : Printed → Session → (image heads next : List ℕ) → St
 leaves p s image heads next = record { answer = p; session = s; image = image; heads = heads; next = next }
 
 -- before an accepted n: no slots, and no cut waits
-unfoldable pub noSet : Session
-noSet = record { n = 0; state = noState; waiting = Nothing }
+unfoldable pub no_set : Session
+no_set = record { n = 0; state = no_state; waiting = Nothing }
 
 -- ---- refusals
 
 -- "16 is a line not of these forms or with a number past 64 bits"
-unfoldable pub formFault : Line → ℕ
-formFault (New n) = 0
-formFault (Write key word) = 0
-formFault (Remove key) = 0
-formFault (Get key) = 0
-formFault (Cut a b) = 0
-formFault Bad = 16
+unfoldable pub form_fault : Line → ℕ
+form_fault (New n) = 0
+form_fault (Write key word) = 0
+form_fault (Remove key) = 0
+form_fault (Get key) = 0
+form_fault (Cut a b) = 0
+form_fault Bad = 16
 
 -- the slots that a line is carried out with: those of a new set, or of the set there is
-unfoldable pub slotsFor : Line → Session → ℕ
-slotsFor (New n) s = n
-slotsFor (Write key word) s = s.n
-slotsFor (Remove key) s = s.n
-slotsFor (Get key) s = s.n
-slotsFor (Cut a b) s = s.n
-slotsFor Bad s = s.n
+unfoldable pub slots_for : Line → Session → ℕ
+slots_for (New n) s = n
+slots_for (Write key word) s = s.n
+slots_for (Remove key) s = s.n
+slots_for (Get key) s = s.n
+slots_for (Cut a b) s = s.n
+slots_for Bad s = s.n
 
 -- "any other line before an accepted n, or n out of range, gives 1"; so does an image or an index that is too short for
 -- n slots and one head
-unfoldable pub sizeFault : (n image heads next : ℕ) → ℕ
-sizeFault n image heads next =
-    refuseIf (ltb n 2) 1
-    (refuseIf (ltb 511 n) 1 (refuseIf (ltb image (128 * (n + 1))) 1 (refuseIf (ltb heads 1) 1 (refuseIf (ltb next (n + 1)) 1 0))))
+unfoldable pub size_fault : (n image heads next : ℕ) → ℕ
+size_fault n image heads next =
+    refuse_if (ltb n 2) 1
+    (refuse_if (ltb 511 n) 1 (refuse_if (ltb image (128 * (n + 1))) 1 (refuse_if (ltb heads 1) 1 (refuse_if (ltb next (n + 1)) 1 0))))
 
 -- "`no 14` for a count above 8"
-unfoldable pub countFault : (a b : ℕ) → ℕ
-countFault a b = refuseIf (ltb 8 a) 14 (refuseIf (ltb 8 b) 14 0)
+unfoldable pub count_fault : (a b : ℕ) → ℕ
+count_fault a b = refuse_if (ltb 8 a) 14 (refuse_if (ltb 8 b) 14 0)
 
 -- of a line: only c has counts
-unfoldable pub cutFault : Line → ℕ
-cutFault (New n) = 0
-cutFault (Write key word) = 0
-cutFault (Remove key) = 0
-cutFault (Get key) = 0
-cutFault (Cut a b) = countFault a b
-cutFault Bad = 0
+unfoldable pub cut_fault : Line → ℕ
+cut_fault (New n) = 0
+cut_fault (Write key word) = 0
+cut_fault (Remove key) = 0
+cut_fault (Get key) = 0
+cut_fault (Cut a b) = count_fault a b
+cut_fault Bad = 0
 
 -- 16 "tested first", then 1, then 14; image, heads and next are lengths
-unfoldable pub lineFault : Line → Session → (image heads next : ℕ) → ℕ
-lineFault line s image heads next =
-    or_else (formFault line) (or_else (sizeFault (slotsFor line s) image heads next) (cutFault line))
+unfoldable pub line_fault : Line → Session → (image heads next : ℕ) → ℕ
+line_fault line s image heads next =
+    or_else (form_fault line) (or_else (size_fault (slots_for line s) image heads next) (cut_fault line))
 
 -- ---- play of a list
 
 -- the image that it leaves
-unfoldable pub playedAll : (image : List ℕ) → List Store → List ℕ
-playedAll image stores = (playListResult image (wordNumbers stores) (values stores)).bytes
+unfoldable pub played_all : (image : List ℕ) → List Store → List ℕ
+played_all image stores = (play_list_result image (word_numbers stores) (values stores)).bytes
 
 -- ---- recovery, after which the session goes on; no cut waits any more
 
 -- p is what the line prints. Where recovery refuses an image there is no set any more (it answers no absent)
-unfoldable pub recoveredAs : (p : Printed) → (n : ℕ) → (image heads next : List ℕ) → State → Answer → StepResult
-recoveredAs p n image heads next state (gives values) =
+unfoldable pub recovered_as : (p : Printed) → (n : ℕ) → (image heads next : List ℕ) → State → Answer → StepResult
+recovered_as p n image heads next state (gives values) =
     leaves p (record { n = n; state = state; waiting = Nothing }) image heads next
-recoveredAs p n image heads next state absent = leaves notHeld noSet image heads next
-recoveredAs p n image heads next state (refused number) = leaves (no number) noSet image heads next
+recovered_as p n image heads next state absent = leaves not_held no_set image heads next
+recovered_as p n image heads next state (refused number) = leaves (no number) no_set image heads next
 
 -- by recovery's result on this image. Document 02, A.7: its invalidating stores "are played and fenced before any other
 -- call"
-unfoldable pub recoveredBy : (p : Printed) → (n : ℕ) → (image : List ℕ) → Recovery → StepResult
-recoveredBy p n image r =
-    recoveredAs p n (playedAll image (storesIn r.invalidations)) r.index.heads r.index.next r.index.state r.answer
+unfoldable pub recovered_by : (p : Printed) → (n : ℕ) → (image : List ℕ) → Recovery → StepResult
+recovered_by p n image r =
+    recovered_as p n (played_all image (stores_in r.invalidations)) r.index.heads r.index.next r.index.state r.answer
 
 -- recovery of this image, with this index lent to it
-unfoldable pub recoverStep : (p : Printed) → (n : ℕ) → (image heads next : List ℕ) → StepResult
-recoverStep p n image heads next = recoveredBy p n image (recoverResult 1 image heads next)
+unfoldable pub recover_step : (p : Printed) → (n : ℕ) → (image heads next : List ℕ) → StepResult
+recover_step p n image heads next = recovered_by p n image (recover_result 1 image heads next)
 
 -- ---- `n N` "formats and recovers": `ok N`. "A new n drops a waiting cut" (format answers no absent)
 
 -- by format's answer: where that is N, recovery comes next, and the line prints `ok N`
-unfoldable pub madeAs : (n : ℕ) → Session → (image heads next : List ℕ) → Answer → StepResult
-madeAs n s image heads next (gives values) = recoverStep (ok values) n image heads next
-madeAs n s image heads next absent = leaves notHeld s image heads next
-madeAs n s image heads next (refused number) = leaves (no number) s image heads next
+unfoldable pub made_as : (n : ℕ) → Session → (image heads next : List ℕ) → Answer → StepResult
+made_as n s image heads next (gives values) = recover_step (ok values) n image heads next
+made_as n s image heads next absent = leaves not_held s image heads next
+made_as n s image heads next (refused number) = leaves (no number) s image heads next
 
 -- by format's result, with this index lent to recovery
-unfoldable pub madeBy : (n : ℕ) → Session → (heads next : List ℕ) → FormatResult → StepResult
-madeBy n s heads next r = madeAs n s r.bytes heads next r.answer
+unfoldable pub made_by : (n : ℕ) → Session → (heads next : List ℕ) → FormatResult → StepResult
+made_by n s heads next r = made_as n s r.bytes heads next r.answer
 
 -- n on an image of n slots
-unfoldable pub makeStep : (n : ℕ) → Session → (image heads next : List ℕ) → StepResult
-makeStep n s image heads next = madeBy n s heads next (formatResult 1 image)
+unfoldable pub make_step : (n : ℕ) → Session → (image heads next : List ℕ) → StepResult
+make_step n s image heads next = made_by n s heads next (format_result 1 image)
 
 -- ---- `p K W` and `r K`
 
 -- "`ok slot version`". A waiting cut: "the next accepted p, or r that stores, plays only A and B stores, and recovery
 -- runs"
-unfoldable pub storedWith : (n : ℕ) → (values : List ℕ) → State → List Store → (image heads next : List ℕ) → Waiting → StepResult
-storedWith n values state stores image heads next Nothing =
-    leaves (ok values) (record { n = n; state = state; waiting = Nothing }) (playedAll image stores) heads next
-storedWith n values state stores image heads next (Counts a b) =
-    recoverStep (ok values) n (playing image stores a b) heads next
+unfoldable pub stored_with : (n : ℕ) → (values : List ℕ) → State → List Store → (image heads next : List ℕ) → Waiting → StepResult
+stored_with n values state stores image heads next Nothing =
+    leaves (ok values) (record { n = n; state = state; waiting = Nothing }) (played_all image stores) heads next
+stored_with n values state stores image heads next (Counts a b) =
+    recover_step (ok values) n (playing image stores a b) heads next
 
 -- by the answer of the call; "the same, or `absent`", or its refusal; after either of the last two a cut goes on
 -- waiting
-unfoldable pub changedAs : Session → State → List Store → (image heads next : List ℕ) → Answer → StepResult
-changedAs s state stores image heads next (gives values) =
-    storedWith s.n values state stores image heads next s.waiting
-changedAs s state stores image heads next absent = leaves notHeld s image heads next
-changedAs s state stores image heads next (refused number) = leaves (no number) s image heads next
+unfoldable pub changed_as : Session → State → List Store → (image heads next : List ℕ) → Answer → StepResult
+changed_as s state stores image heads next (gives values) =
+    stored_with s.n values state stores image heads next s.waiting
+changed_as s state stores image heads next absent = leaves not_held s image heads next
+changed_as s state stores image heads next (refused number) = leaves (no number) s image heads next
 
 -- by the result of a call that writes on this image
-unfoldable pub changeStep : Session → (image : List ℕ) → CallResult → StepResult
-changeStep s image r = changedAs s r.index.state r.stores image r.index.heads r.index.next r.answer
+unfoldable pub change_step : Session → (image : List ℕ) → CallResult → StepResult
+change_step s image r = changed_as s r.index.state r.stores image r.index.heads r.index.next r.answer
 
 -- "the 8-byte word W"
 unfoldable pub word_bytes : (w : ℕ) → List ℕ
-word_bytes w = setWord (replicate 8 0) 0 w
+word_bytes w = set_word (replicate 8 0) 0 w
 
 -- document 02, A.2: "The trial's p inserts or replaces according to what is held", by the answer of a locate; where
 -- that refuses, so does an insert
-unfoldable pub modeBy : Answer → Mode
-modeBy (gives values) = Replace
-modeBy absent = Insert
-modeBy (refused number) = Insert
+unfoldable pub mode_by : Answer → Mode
+mode_by (gives values) = Replace
+mode_by absent = Insert
+mode_by (refused number) = Insert
 
-abbrev pub wordChange : (key w : ℕ) → State → (image heads next : List ℕ) → CallResult
-wordChange key w state image heads next =
-    writeResult 1 image (index_of heads next state) (modeBy (locateResult 1 image heads next key).answer) key (word_bytes w)
+abbrev pub word_change : (key w : ℕ) → State → (image heads next : List ℕ) → CallResult
+word_change key w state image heads next =
+    write_result 1 image (index_of heads next state) (mode_by (locate_result 1 image heads next key).answer) key (word_bytes w)
 
-unfoldable pub writeStep : (key w : ℕ) → Session → (image heads next : List ℕ) → StepResult
-writeStep key w s image heads next = changeStep s image (wordChange key w s.state image heads next)
+unfoldable pub write_step : (key w : ℕ) → Session → (image heads next : List ℕ) → StepResult
+write_step key w s image heads next = change_step s image (word_change key w s.state image heads next)
 
 -- ---- `g K`: "`found W`, or `absent`"
 
 -- by get's answer and the output that it left: W is the word at the output's front
-unfoldable pub gotAs : (out : List ℕ) → Answer → Printed
-gotAs out (gives values) = found (word out 0)
-gotAs out absent = notHeld
-gotAs out (refused number) = no number
+unfoldable pub got_as : (out : List ℕ) → Answer → Printed
+got_as out (gives values) = found (word out 0)
+got_as out absent = not_held
+got_as out (refused number) = no number
 
 -- by get's result
-unfoldable pub gotBy : ReadOnlyResult → Printed
-gotBy r = gotAs r.out r.answer
+unfoldable pub got_by : ReadOnlyResult → Printed
+got_by r = got_as r.out r.answer
 
 -- the word of the value, with 80 bytes of output
-unfoldable pub wordFound : (image heads next : List ℕ) → (key : ℕ) → Printed
-wordFound image heads next key = gotBy (getResult 1 image heads next key (replicate 80 0))
+unfoldable pub word_found : (image heads next : List ℕ) → (key : ℕ) → Printed
+word_found image heads next key = got_by (get_result 1 image heads next key (replicate 80 0))
 
 -- ---- `c A B`: "`cut A B`"; "a later c replaces a waiting one"
 
 -- the session with a cut of these counts waiting
-unfoldable pub waitingFor : Session → (a b : ℕ) → Session
-waitingFor s a b = record { n = s.n; state = s.state; waiting = Counts a b }
+unfoldable pub waiting_for : Session → (a b : ℕ) → Session
+waiting_for s a b = record { n = s.n; state = s.state; waiting = Counts a b }
 
 -- ---- a line on an image and an index of the set's size
 
 -- each line by its form; a Bad line is refused before it comes here
-unfoldable pub lineStep : Line → Session → (image heads next : List ℕ) → StepResult
-lineStep (New n) s image heads next = makeStep n s image heads next
-lineStep (Write key w) s image heads next = writeStep key w s image heads next
-lineStep (Remove key) s image heads next = changeStep s image (removeResult 1 image (index_of heads next s.state) key)
-lineStep (Get key) s image heads next = leaves (wordFound image heads next key) s image heads next
-lineStep (Cut a b) s image heads next = leaves (cut a b) (waitingFor s a b) image heads next
-lineStep Bad s image heads next = leaves (no 16) s image heads next
+unfoldable pub line_step : Line → Session → (image heads next : List ℕ) → StepResult
+line_step (New n) s image heads next = make_step n s image heads next
+line_step (Write key w) s image heads next = write_step key w s image heads next
+line_step (Remove key) s image heads next = change_step s image (remove_result 1 image (index_of heads next s.state) key)
+line_step (Get key) s image heads next = leaves (word_found image heads next key) s image heads next
+line_step (Cut a b) s image heads next = leaves (cut a b) (waiting_for s a b) image heads next
+line_step Bad s image heads next = leaves (no 16) s image heads next
 
 -- what follows the fronts that a step uses stays as it was
-unfoldable pub followedBy : (image heads next : List ℕ) → StepResult → StepResult
-followedBy image heads next r =
+unfoldable pub followed_by : (image heads next : List ℕ) → StepResult → StepResult
+followed_by image heads next r =
     leaves r.answer r.session (r.image ++ image) (r.heads ++ heads) (r.next ++ next)
 
 -- the fronts are the image of m - 1 slots, one head and m numbers of next
-unfoldable pub frontStep : Line → Session → (m : ℕ) → (image heads next : List ℕ) → StepResult
-frontStep line s m image heads next =
-    followedBy (drop (128 * m) image) (drop 1 heads) (drop m next)
-    (lineStep line s (take (128 * m) image) (take 1 heads) (take m next))
+unfoldable pub front_step : Line → Session → (m : ℕ) → (image heads next : List ℕ) → StepResult
+front_step line s m image heads next =
+    followed_by (drop (128 * m) image) (drop 1 heads) (drop m next)
+    (line_step line s (take (128 * m) image) (take 1 heads) (take m next))
 
 -- a refused line "changes nothing"
-unfoldable pub stepResult : Line → Session → (image heads next : List ℕ) → StepResult
-stepResult line s image heads next =
-    unlessRefused (lineFault line s (length image) (length heads) (length next))
-    (frontStep line s (slotsFor line s + 1) image heads next)
-    (leaves (no (lineFault line s (length image) (length heads) (length next))) s image heads next)
+unfoldable pub step_result : Line → Session → (image heads next : List ℕ) → StepResult
+step_result line s image heads next =
+    unless_refused (line_fault line s (length image) (length heads) (length next))
+    (front_step line s (slots_for line s + 1) image heads next)
+    (leaves (no (line_fault line s (length image) (length heads) (length next))) s image heads next)

@@ -1,9 +1,9 @@
 // The calls of the set as a session makes them: a new set, insert and replace, remove, get, and recovery after a cut.
 ghost use Rattle.std.specs.Prelude.{◌≡◌, [], ◌∷◌, ◌≤◌};
-ghost use Rattle.interface.specs.Set.{zipped, storesIn, buffersAfter, changeEnd, removeResult, getResult, index_of};
-ghost use Rattle.text.specs.inner.Output.{replySays};
-ghost use Rattle.session.specs.inner.Step.{stepEnd};
-ghost use Rattle.session.specs.Step.{playedAll, recoverStep, makeStep, storedWith, changeStep, wordChange, writeStep, gotBy, wordFound};
+ghost use Rattle.interface.specs.Set.{zipped, stores_in, buffers_after, change_end, remove_result, get_result, index_of};
+ghost use Rattle.text.specs.inner.Output.{reply_says};
+ghost use Rattle.session.specs.inner.Step.{step_end};
+ghost use Rattle.session.specs.Step.{played_all, recover_step, make_step, stored_with, change_step, word_change, write_step, got_by, word_found};
 
 use crate::start::empty_session;
 use orderset::{
@@ -17,7 +17,7 @@ use words_code::{padded_word, write_word};
 // The invalidating stores of a recovery are made.
 fn open_slots(image: &mut [u8], invalidations: Invalidations)
     requires { invalidations.count ≤ 8 }
-    ensures { image.new ≡ playedAll image.old (storesIn invalidations) }
+    ensures { image.new ≡ played_all image.old (stores_in invalidations) }
 {
     let count = invalidations.count as usize;
     let at = invalidations.at;
@@ -33,8 +33,8 @@ fn recover_session(
     heads: &mut [u32],
     next: &mut [u32],
 ) -> Stepped
-    ensures { stepEnd result image.new heads.new next.new
-        ≡ recoverStep (replySays reply) n image.old heads.old next.old }
+    ensures { step_end result image.new heads.new next.new
+        ≡ recover_step (reply_says reply) n image.old heads.old next.old }
 {
     let answer = recover(image, heads, next);
     let invalidations = answer.invalidations;
@@ -64,8 +64,8 @@ pub fn make(
     heads: &mut [u32],
     next: &mut [u32],
 ) -> Stepped
-    ensures result { stepEnd result image.new heads.new next.new
-        ≡ makeStep n session image.old heads.old next.old }
+    ensures result { step_end result image.new heads.new next.new
+        ≡ make_step n session image.old heads.old next.old }
 {
     let formatted = format(image, 1);
     match formatted {
@@ -95,8 +95,8 @@ fn play_or_cut(
     heads: &mut [u32],
     next: &mut [u32],
 ) -> Stepped
-    ensures { stepEnd result image.new heads.new next.new
-        ≡ storedWith session.n (slot ∷ version ∷ []) change.state (zipped stores.at stores.value) image.old
+    ensures { step_end result image.new heads.new next.new
+        ≡ stored_with session.n (slot ∷ version ∷ []) change.state (zipped stores.at stores.value) image.old
         heads.old next.old session.waiting }
 {
     let waiting = session.waiting;
@@ -137,8 +137,8 @@ pub fn carry_change(
     heads: &mut [u32],
     next: &mut [u32],
 ) -> Stepped
-    ensures result { stepEnd result image.new heads.new next.new
-        ≡ changeStep session image.old (changeEnd change stores.at stores.value heads.old next.old) }
+    ensures result { step_end result image.new heads.new next.new
+        ≡ change_step session image.old (change_end change stores.at stores.value heads.old next.old) }
 {
     let outcome = change.outcome;
     match outcome {
@@ -167,9 +167,9 @@ pub fn write_key(
     at: &mut [u32; 16],
     words: &mut [u64; 16],
 ) -> Change
-    ensures result { changeEnd result at.new words.new heads.new next.new
-        ≡ buffersAfter (zipped at.old words.old)
-        (wordChange key word state image.now heads.old next.old) }
+    ensures result { change_end result at.new words.new heads.new next.new
+        ≡ buffers_after (zipped at.old words.old)
+        (word_change key word state image.now heads.old next.old) }
 {
     let mut value = [0u8; 8];
     write_word(&mut value, 0, word);
@@ -194,8 +194,8 @@ pub fn write_line(
     heads: &mut [u32],
     next: &mut [u32],
 ) -> Stepped
-    ensures result { stepEnd result image.new heads.new next.new
-        ≡ writeStep key word session image.old heads.old next.old }
+    ensures result { step_end result image.new heads.new next.new
+        ≡ write_step key word session image.old heads.old next.old }
 {
     let state = session.state;
     let mut at = [0u32; 16];
@@ -212,9 +212,9 @@ pub fn remove_line(
     heads: &mut [u32],
     next: &mut [u32],
 ) -> Stepped
-    ensures result { stepEnd result image.new heads.new next.new
-        ≡ changeStep session image.old
-        (removeResult 1 image.old (index_of heads.old next.old session.state) key) }
+    ensures result { step_end result image.new heads.new next.new
+        ≡ change_step session image.old
+        (remove_result 1 image.old (index_of heads.old next.old session.state) key) }
 {
     let state = session.state;
     let mut at = [0u32; 16];
@@ -225,7 +225,7 @@ pub fn remove_line(
 
 // The word of the key's value, read by way of the lent bytes.
 fn get_by(image: &[u8], heads: &[u32], next: &[u32], key: u64, out: &mut [u8]) -> Reply
-    ensures { replySays result ≡ gotBy (getResult 1 image.now heads.now next.now key out.old) }
+    ensures { reply_says result ≡ got_by (get_result 1 image.now heads.now next.now key out.old) }
 {
     let answer = get(image, heads, next, key, out);
     let got = answer.got;
@@ -238,7 +238,7 @@ fn get_by(image: &[u8], heads: &[u32], next: &[u32], key: u64, out: &mut [u8]) -
 
 // `g K`.
 pub fn get_word(image: &[u8], heads: &[u32], next: &[u32], key: u64) -> Reply
-    ensures result { replySays result ≡ wordFound image.now heads.now next.now key }
+    ensures result { reply_says result ≡ word_found image.now heads.now next.now key }
 {
     let mut out = [0u8; 80];
     get_by(image, heads, next, key, &mut out)

@@ -1,13 +1,13 @@
 // The session before its first accepted n.
 ghost use Rattle.std.specs.Prelude.{◌≡◌};
-ghost use Rattle.session.specs.Step.{noSet};
+ghost use Rattle.session.specs.Step.{no_set};
 
 use orderset::State;
 use session::{Session, Waiting};
 
 // A session before an accepted n.
 pub fn empty_session() -> Session
-    ensures result { result ≡ noSet }
+    ensures result { result ≡ no_set }
 {
     Session {
         n: 0,

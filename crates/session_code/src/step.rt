@@ -1,7 +1,7 @@
 // One line of a session is carried out.
 ghost use Rattle.std.specs.Prelude.{◌≡◌};
-ghost use Rattle.session.specs.inner.Step.{stepEnd};
-ghost use Rattle.session.specs.Step.{waitingFor, lineStep, stepResult};
+ghost use Rattle.session.specs.inner.Step.{step_end};
+ghost use Rattle.session.specs.Step.{waiting_for, line_step, step_result};
 
 use crate::lines::{get_word, make, remove_line, write_line};
 use session::{Session, Stepped, Waiting};
@@ -10,7 +10,7 @@ use text::{Line, Reply};
 
 // The counts wait for the next accepted p, or r that stores.
 fn wait(session: Session, a: u64, b: u64) -> Session
-    ensures { result ≡ waitingFor session a b }
+    ensures { result ≡ waiting_for session a b }
 {
     let state = session.state;
     Session {
@@ -31,8 +31,8 @@ pub fn carry_line(
     heads: &mut [u32],
     next: &mut [u32],
 ) -> Stepped
-    ensures result { stepEnd result image.new heads.new next.new
-        ≡ lineStep line session image.old heads.old next.old }
+    ensures result { step_end result image.new heads.new next.new
+        ≡ line_step line session image.old heads.old next.old }
 {
     match line {
         Line::New(n) => make(n, session, image, heads, next),
@@ -61,8 +61,8 @@ pub fn step(
     heads: &mut [u32],
     next: &mut [u32],
 ) -> Stepped
-    ensures result { stepEnd result image.new heads.new next.new
-        ≡ stepResult line session image.old heads.old next.old }
+    ensures result { step_end result image.new heads.new next.new
+        ≡ step_result line session image.old heads.old next.old }
 {
     let fault = line_fault(line, session, image.len(), heads.len(), next.len());
     if fault != 0 {

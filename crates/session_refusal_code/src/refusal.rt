@@ -1,13 +1,13 @@
 // What a line is refused for before anything is done: 16, 1 and 14.
 ghost use Rattle.std.specs.Prelude.{◌≡◌};
-ghost use Rattle.session.specs.Step.{formFault, slotsFor, sizeFault, countFault, cutFault, lineFault};
+ghost use Rattle.session.specs.Step.{form_fault, slots_for, size_fault, count_fault, cut_fault, line_fault};
 
 use session::Session;
 use text::Line;
 
 // 16 for a line of none of the forms, else 0.
 fn form_fault(line: Line) -> u32
-    ensures { result ≡ formFault line }
+    ensures { result ≡ form_fault line }
 {
     match line {
         Line::New(_) => 0,
@@ -21,7 +21,7 @@ fn form_fault(line: Line) -> u32
 
 // The number of slots that a line is carried out with.
 pub fn slots_for(line: Line, session: Session) -> u64
-    ensures result { result ≡ slotsFor line session }
+    ensures result { result ≡ slots_for line session }
 {
     match line {
         Line::New(n) => n,
@@ -35,7 +35,7 @@ pub fn slots_for(line: Line, session: Session) -> u64
 
 // 1 where n is out of range, or what is lent is too short for n slots, else 0.
 fn size_fault(n: u64, image: usize, heads: usize, next: usize) -> u32
-    ensures { result ≡ sizeFault n image heads next }
+    ensures { result ≡ size_fault n image heads next }
 {
     if n < 2 {
         return 1;
@@ -57,7 +57,7 @@ fn size_fault(n: u64, image: usize, heads: usize, next: usize) -> u32
 
 // 14 for a count above 8, else 0.
 fn count_fault(a: u64, b: u64) -> u32
-    ensures { result ≡ countFault a b }
+    ensures { result ≡ count_fault a b }
 {
     if 8 < a {
         return 14;
@@ -70,7 +70,7 @@ fn count_fault(a: u64, b: u64) -> u32
 
 // 14 for a cut with a count above 8, else 0.
 fn cut_fault(line: Line) -> u32
-    ensures { result ≡ cutFault line }
+    ensures { result ≡ cut_fault line }
 {
     match line {
         Line::New(_) => 0,
@@ -84,7 +84,7 @@ fn cut_fault(line: Line) -> u32
 
 // 16, 1 or 14, else 0.
 pub fn line_fault(line: Line, session: Session, image: usize, heads: usize, next: usize) -> u32
-    ensures result { result ≡ lineFault line session image heads next }
+    ensures result { result ≡ line_fault line session image heads next }
 {
     let form = form_fault(line);
     if form != 0 {

@@ -1,7 +1,7 @@
 // The input byte by byte, and the output in a lent slice.
 ghost use Rattle.std.specs.Prelude.{◌≡◌};
-ghost use Rattle.session.specs.Stream.{streamEnd, at_start, withByte, answerResult, byteResult, endResult};
-ghost use Rattle.session.specs.Step.{stepResult};
+ghost use Rattle.session.specs.Stream.{stream_end, at_start, with_byte, answer_result, byte_result, end_result};
+ghost use Rattle.session.specs.Step.{step_result};
 
 use session::Progress;
 use session_code::start::empty_session;
@@ -30,8 +30,8 @@ fn answer_line(
     next: &mut [u32],
     out: &mut [u8],
 ) -> Progress
-    ensures stream { streamEnd result image.new heads.new next.new out.new ≡
-        answerResult stepResult s image.old heads.old next.old out.old }
+    ensures stream { stream_end result image.new heads.new next.new out.new ≡
+        answer_result step_result s image.old heads.old next.old out.old }
 {
     let parse = s.parse;
     let session = s.session;
@@ -49,7 +49,7 @@ fn answer_line(
 
 // One more byte of a line.
 pub fn add_byte(s: Progress, byte: u8) -> Progress
-    ensures stream { result ≡ withByte s byte }
+    ensures stream { result ≡ with_byte s byte }
 {
     let parse = s.parse;
     let session = s.session;
@@ -70,8 +70,8 @@ pub fn take_byte(
     next: &mut [u32],
     out: &mut [u8],
 ) -> Progress
-    ensures stream { streamEnd result image.new heads.new next.new out.new ≡
-        byteResult stepResult s byte image.old heads.old next.old out.old }
+    ensures stream { stream_end result image.new heads.new next.new out.new ≡
+        byte_result step_result s byte image.old heads.old next.old out.old }
 {
     if byte == 10 {
         return answer_line(s, image, heads, next, out);
@@ -87,8 +87,8 @@ pub fn end_input(
     next: &mut [u32],
     out: &mut [u8],
 ) -> Progress
-    ensures stream { streamEnd result image.new heads.new next.new out.new ≡
-        endResult stepResult s image.old heads.old next.old out.old }
+    ensures stream { stream_end result image.new heads.new next.new out.new ≡
+        end_result step_result s image.old heads.old next.old out.old }
 {
     if s.begun {
         return answer_line(s, image, heads, next, out);

@@ -4,38 +4,38 @@ use mathlib.Core.List.{List}
 use Prim.Native.Nat.{ℕ, ◌-◌, ◌≤◌}
 use Rattle.prelude.specs.Range.{count}
 use Rattle.prelude.proofs.Count.{count-filter}
-use Rattle.layout.specs.Size.{slotsIn}
-use Rattle.layout.specs.Content.{contentsOf, sizeFieldsOf}
-use Rattle.table.specs.Complete.{isVoid}
-use Rattle.recovery.specs.Invalidation.{voidSlots}
+use Rattle.layout.specs.Size.{slots_in}
+use Rattle.layout.specs.Content.{contents_of, size_fields_of}
+use Rattle.table.specs.Complete.{is_void}
+use Rattle.recovery.specs.Invalidation.{void_slots}
 use Rattle.recovery.specs.declared.Classes.{Classes}
 use Rattle.recovery.specs.declared.Invalidations.{Invalidations}
-use Rattle.slot_counts.specs.Count.{countsIn}
-use Rattle.slot_counts.specs.inner.Countable.{voidRemoves, Countable}
-use Rattle.slot_counts.proofs.Counts.{void-split, puts-left, live-left, removes-left, counted_is}
-use Rattle.slot_counts.proofs.VoidRecords.{opened-count}
+use Rattle.slot_counts.specs.Count.{counts_in}
+use Rattle.slot_counts.specs.inner.Countable.{void_removes, Countable}
+use Rattle.slot_counts.proofs.Counts.{void_split, puts_left, live_left, removes_left, counted_is}
+use Rattle.slot_counts.proofs.VoidRecords.{opened_count}
 
 module _ (image : List ℕ) (l : ℕ) (all : Classes) (live : ℕ) (o : Invalidations) (g : Countable image l all live o) (removes : ℕ)
-    (r : removes ≡ voidRemoves (contentsOf l image) (sizeFieldsOf l image) (slotsIn image)) where
-  void-is : o.count ≡ count (isVoid (contentsOf l image) (sizeFieldsOf l image) (slotsIn image)) (slotsIn image)
-  unfolding voidSlots
-  void-is = opened-count image l o g.opens ∙ sym (count-filter _ (slotsIn image))
+    (r : removes ≡ void_removes (contents_of l image) (size_fields_of l image) (slots_in image)) where
+  void_is : o.count ≡ count (is_void (contents_of l image) (size_fields_of l image) (slots_in image)) (slots_in image)
+  unfolding void_slots
+  void_is = opened_count image l o g.opens ∙ sym (count-filter _ (slots_in image))
 
   -- each difference is one of numbers
-  pub accepted-void : removes ≤ o.count
-  accepted-void = void-split (contentsOf l image) (sizeFieldsOf l image) (slotsIn image) all g.classed live o.count removes g.live-is void-is r
+  pub accepted_void : removes ≤ o.count
+  accepted_void = void_split (contents_of l image) (size_fields_of l image) (slots_in image) all g.classed live o.count removes g.live_is void_is r
 
-  pub accepted-puts : o.count - removes ≤ all.puts
-  accepted-puts = puts-left (contentsOf l image) (sizeFieldsOf l image) (slotsIn image) all g.classed live o.count removes g.live-is void-is r
+  pub accepted_puts : o.count - removes ≤ all.puts
+  accepted_puts = puts_left (contents_of l image) (size_fields_of l image) (slots_in image) all g.classed live o.count removes g.live_is void_is r
 
-  pub accepted-live : live ≤ all.puts - (o.count - removes)
-  accepted-live = live-left (contentsOf l image) (sizeFieldsOf l image) (slotsIn image) all g.classed live o.count removes g.live-is void-is r
+  pub accepted_live : live ≤ all.puts - (o.count - removes)
+  accepted_live = live_left (contents_of l image) (size_fields_of l image) (slots_in image) all g.classed live o.count removes g.live_is void_is r
 
-  pub accepted-removes : removes ≤ all.removes
-  accepted-removes = removes-left (contentsOf l image) (sizeFieldsOf l image) (slotsIn image) all g.classed live o.count removes g.live-is void-is r
+  pub accepted_removes : removes ≤ all.removes
+  accepted_removes = removes_left (contents_of l image) (size_fields_of l image) (slots_in image) all g.classed live o.count removes g.live_is void_is r
 
   -- and the counts are these
-  pub accepted-counts : record {
+  pub accepted_counts : record {
     live = live;
     hidden = all.puts - (o.count - removes) - live;
     removes = all.removes - removes;
@@ -43,6 +43,6 @@ module _ (image : List ℕ) (l : ℕ) (all : Classes) (live : ℕ) (o : Invalida
     broken = all.broken;
     empty = all.empty;
   }
-      ≡ countsIn l image
-  unfolding countsIn
-  accepted-counts = counted_is (contentsOf l image) (sizeFieldsOf l image) (slotsIn image) all g.classed live o.count removes g.live-is void-is r
+      ≡ counts_in l image
+  unfolding counts_in
+  accepted_counts = counted_is (contents_of l image) (size_fields_of l image) (slots_in image) all g.classed live o.count removes g.live_is void_is r

@@ -3,7 +3,7 @@ mod void_records;
 
 ghost use Rattle.std.specs.Prelude.{◌≡◌};
 ghost use Rattle.layout.specs.Record.{Layout};
-ghost use Rattle.slot_counts.specs.Count.{countsIn, countEnd, countResult};
+ghost use Rattle.slot_counts.specs.Count.{counts_in, count_end, count_result};
 ghost use Rattle.slot_counts.specs.inner.Countable.{Countable};
 
 use crate::void_records::void_removes;
@@ -21,7 +21,7 @@ fn count_accepted(
     invalidations: Invalidations,
 ) -> SlotCounts
     requires { Countable image.now l all live invalidations }
-    ensures { result ≡ countsIn l image.now }
+    ensures { result ≡ counts_in l image.now }
 {
     let void = invalidations.count;
     let removes = void_removes(image, l, invalidations);
@@ -38,7 +38,7 @@ fn count_accepted(
 // Count the slots, in layout l.
 fn count_slots_in(image: &[u8], l: usize, heads: &mut [u32], next: &mut [u32]) -> CountAnswer
     requires { Layout l }
-    ensures { countEnd result heads.new next.new ≡ countResult l image.now heads.old next.old }
+    ensures { count_end result heads.new next.new ≡ count_result l image.now heads.old next.old }
 {
     let report = recover_in(image, l, heads, next);
     let classes = report.classes;
@@ -60,14 +60,14 @@ fn count_slots_in(image: &[u8], l: usize, heads: &mut [u32], next: &mut [u32]) -
 // How many slots of an accepted image are live, hidden puts, remove records, void, broken and empty; or recovery's
 // refusal. Heads and next are those that recovery leaves, and a refusal changes neither.
 pub fn count_slots(image: &[u8], heads: &mut [u32], next: &mut [u32]) -> CountAnswer
-    ensures result { countEnd result heads.new next.new ≡ countResult 1 image.now heads.old next.old }
+    ensures result { count_end result heads.new next.new ≡ count_result 1 image.now heads.old next.old }
 {
     count_slots_in(image, 1, heads, next)
 }
 
 // The same in layout 2.
 pub fn count_slots2(image: &[u8], heads: &mut [u32], next: &mut [u32]) -> CountAnswer
-    ensures result { countEnd result heads.new next.new ≡ countResult 2 image.now heads.old next.old }
+    ensures result { count_end result heads.new next.new ≡ count_result 2 image.now heads.old next.old }
 {
     count_slots_in(image, 2, heads, next)
 }

@@ -1,8 +1,8 @@
 // The removes among the void records.
 ghost use Rattle.std.specs.Prelude.{◌≡◌};
-ghost use Rattle.layout.specs.Size.{slotsIn};
-ghost use Rattle.layout.specs.Content.{contentsOf, sizeFieldsOf};
-ghost use Rattle.slot_counts.specs.inner.Countable.{OpensVoid, voidRemoves};
+ghost use Rattle.layout.specs.Size.{slots_in};
+ghost use Rattle.layout.specs.Content.{contents_of, size_fields_of};
+ghost use Rattle.slot_counts.specs.inner.Countable.{OpensVoid, void_removes};
 
 use layout_fields_code::fields::slot_kind;
 use recovery::Invalidations;
@@ -10,7 +10,7 @@ use recovery::Invalidations;
 // How many of the slots that these stores open hold a remove; the store of slot s is to word 16 s.
 pub fn void_removes(image: &[u8], l: usize, invalidations: Invalidations) -> u32
     requires { OpensVoid image.now l invalidations }
-    ensures result { result ≡ voidRemoves (contentsOf l image.now) (sizeFieldsOf l image.now) (slotsIn image.now) }
+    ensures result { result ≡ void_removes (contents_of l image.now) (size_fields_of l image.now) (slots_in image.now) }
 {
     let count = invalidations.count as usize;
     let at = invalidations.at;

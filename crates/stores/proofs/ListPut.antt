@@ -5,24 +5,24 @@ use Prim.Native.Nat.{ℕ, zero, suc, ◌≤◌, ◌<◌}
 use native.Mathlib.Omega.{arith}
 use lib.ListN.{length, get_or, set, take}
 use Rattle.stores.specs.Store.{Store, zipped}
-use Rattle.stores.specs.Play.{wordNumbers, values}
-use Rattle.stores.specs.inner.List.{storesPut}
+use Rattle.stores.specs.Play.{word_numbers, values}
+use Rattle.stores.specs.inner.List.{stores_put}
 
-pub put-none : (at words : List ℕ) (list : List Store) → storesPut at words 0 list ≡ list
+pub put_none : (at words : List ℕ) (list : List Store) → stores_put at words 0 list ≡ list
 unfolding zipped
-put-none at words list = refl
+put_none at words list = refl
 
-pub put-length : (at words : List ℕ) (list : List Store) (i : ℕ) → i ≤ length list → i ≤ length at → i ≤ length words
-    → length (storesPut at words i list) ≡ length list
+pub put_length : (at words : List ℕ) (list : List Store) (i : ℕ) → i ≤ length list → i ≤ length at → i ≤ length words
+    → length (stores_put at words i list) ≡ length list
 unfolding zipped
-put-length at words list zero h k m = refl
-put-length [] words list (suc i) h k m = absurd (omega arith)
-put-length (a ∷ at) [] list (suc i) h k m = absurd (omega arith)
-put-length (a ∷ at) (w ∷ words) [] (suc i) h k m = absurd (omega arith)
-put-length (a ∷ at) (w ∷ words) (s ∷ list) (suc i) h k m = ap suc (put-length at words list i (omega arith) (omega arith) (omega arith))
+put_length at words list zero h k m = refl
+put_length [] words list (suc i) h k m = absurd (omega arith)
+put_length (a ∷ at) [] list (suc i) h k m = absurd (omega arith)
+put_length (a ∷ at) (w ∷ words) [] (suc i) h k m = absurd (omega arith)
+put_length (a ∷ at) (w ∷ words) (s ∷ list) (suc i) h k m = ap suc (put_length at words list i (omega arith) (omega arith) (omega arith))
 
 pub put_next : (at words : List ℕ) (list : List Store) (i : ℕ) → i < length list → i < length at → i < length words
-    → set (storesPut at words i list) i (record { word = get_or at i 0; value = get_or words i 0 }) ≡ storesPut at words (suc i) list
+    → set (stores_put at words i list) i (record { word = get_or at i 0; value = get_or words i 0 }) ≡ stores_put at words (suc i) list
 unfolding zipped
 put_next [] words list i h k m = absurd (omega arith)
 put_next (a ∷ at) [] list i h k m = absurd (omega arith)
@@ -40,8 +40,8 @@ zipped-length [] words (suc k) h m = absurd (omega arith)
 zipped-length (a ∷ at) [] (suc k) h m = absurd (omega arith)
 zipped-length (a ∷ at) (w ∷ words) (suc k) h m = ap suc (zipped-length at words k (omega arith) (omega arith))
 
-pub front-stores : (ss : List Store) (x x' y y' : List ℕ)
-    → zipped (take (length ss) ((wordNumbers ss ++ x) ++ x')) (take (length ss) ((values ss ++ y) ++ y')) ≡ ss
-unfolding zipped wordNumbers values
-front-stores [] x x' y y' = refl
-front-stores (s ∷ ss) x x' y y' = ap (λ (t : List Store). s ∷ t) (front-stores ss x x' y y')
+pub front_stores : (ss : List Store) (x x' y y' : List ℕ)
+    → zipped (take (length ss) ((word_numbers ss ++ x) ++ x')) (take (length ss) ((values ss ++ y) ++ y')) ≡ ss
+unfolding zipped word_numbers values
+front_stores [] x x' y y' = refl
+front_stores (s ∷ ss) x x' y y' = ap (λ (t : List Store). s ∷ t) (front_stores ss x x' y y')

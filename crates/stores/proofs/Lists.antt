@@ -8,22 +8,22 @@ use lib.ListN.{length, get_or}
 use lib.Seq.{sets}
 use lib.Dec.{ltb}
 use borrow.Author.Tests.{le-ltb}
-use Rattle.prelude.proofs.Any.{any-clear}
-use Rattle.prelude.proofs.Buffers.{Fill, fill_begins, fill_on, fill-ends}
-use Rattle.prelude.proofs.Refusals.{taken-leaves}
+use Rattle.prelude.proofs.Any.{any_clear}
+use Rattle.prelude.proofs.Buffers.{Fill, fill_begins, fill_on, fill_ends}
+use Rattle.prelude.proofs.Refusals.{taken_leaves}
 use Rattle.stores.specs.Store.{Store, zipped, played}
-use Rattle.stores.specs.Play.{playEnd, wordNumbers, values, listFault, playListResult}
-use Rattle.stores.proofs.defs.Cut.{StoresInside, nil-in, cons-in}
-use Rattle.stores.proofs.Plays.{list-fine}
+use Rattle.stores.specs.Play.{play_end, word_numbers, values, list_fault, play_list_result}
+use Rattle.stores.proofs.defs.Cut.{StoresInside, nil_in, cons_in}
+use Rattle.stores.proofs.Plays.{list_fine}
 
 -- THE LIST OF STORES is the zip of its two lists of numbers
-pub zipped-back : (ss : List Store) → zipped (wordNumbers ss) (values ss) ≡ ss
-unfolding zipped wordNumbers values
-zipped-back [] = refl
-zipped-back (s ∷ ss) = ap (λ (t : List Store). s ∷ t) (zipped-back ss)
+pub zipped_back : (ss : List Store) → zipped (word_numbers ss) (values ss) ≡ ss
+unfolding zipped word_numbers values
+zipped_back [] = refl
+zipped_back (s ∷ ss) = ap (λ (t : List Store). s ∷ t) (zipped_back ss)
 
-pub numbers-length : (ss : List Store) → length (wordNumbers ss) ≡ length ss
-unfolding wordNumbers
+pub numbers-length : (ss : List Store) → length (word_numbers ss) ≡ length ss
+unfolding word_numbers
 numbers-length [] = refl
 numbers-length (s ∷ ss) = ap suc (numbers-length ss)
 
@@ -32,63 +32,63 @@ unfolding values
 values_length [] = refl
 values_length (s ∷ ss) = ap suc (values_length ss)
 
-pub numbers-append : (x y : List Store) → wordNumbers (x ++ y) ≡ wordNumbers x ++ wordNumbers y
-unfolding wordNumbers
-numbers-append [] y = refl
-numbers-append (s ∷ x) y = ap (λ (t : List ℕ). s.word ∷ t) (numbers-append x y)
+pub numbers_append : (x y : List Store) → word_numbers (x ++ y) ≡ word_numbers x ++ word_numbers y
+unfolding word_numbers
+numbers_append [] y = refl
+numbers_append (s ∷ x) y = ap (λ (t : List ℕ). s.word ∷ t) (numbers_append x y)
 
-pub values-append : (x y : List Store) → values (x ++ y) ≡ values x ++ values y
+pub values_append : (x y : List Store) → values (x ++ y) ≡ values x ++ values y
 unfolding values
-values-append [] y = refl
-values-append (s ∷ x) y = ap (λ (t : List ℕ). s.value ∷ t) (values-append x y)
+values_append [] y = refl
+values_append (s ∷ x) y = ap (λ (t : List ℕ). s.value ∷ t) (values_append x y)
 
 -- ---- two lists filled with stores, part by part
 
 -- the stores `rest` are still to be filled in from position k on: then all of them stand from position k₀ on
 pub record StoresFill (at₀ value₀ : List ℕ) (k₀ : ℕ) (all : List Store) (at value : List ℕ) (k : ℕ) (rest : List Store) : Type 0 where
-  pub ats : Fill at₀ k₀ (wordNumbers all) at k (wordNumbers rest)
+  pub ats : Fill at₀ k₀ (word_numbers all) at k (word_numbers rest)
   pub vals : Fill value₀ k₀ (values all) value k (values rest)
 
-pub stores-begin : {at value : List ℕ} {k₀ k : ℕ} {all rest : List Store} → k ≡ k₀ → rest ≡ all → StoresFill at value k₀ all at value k rest
-stores-begin p e = record { ats = fill_begins p (ap wordNumbers e); vals = fill_begins p (ap values e) }
+pub stores_begin : {at value : List ℕ} {k₀ k : ℕ} {all rest : List Store} → k ≡ k₀ → rest ≡ all → StoresFill at value k₀ all at value k rest
+stores_begin p e = record { ats = fill_begins p (ap word_numbers e); vals = fill_begins p (ap values e) }
 
 module _ {at₀ value₀ : List ℕ} {k₀ : ℕ} {all : List Store} {at value : List ℕ} {k : ℕ} {rest : List Store}
     (g : StoresFill at₀ value₀ k₀ all at value k rest) where
-  pub stores-on : {at' value' : List ℕ} {k' : ℕ} (part : List Store) {behind : List Store} → rest ≡ part ++ behind
-      → at' ≡ sets at k (wordNumbers part) → value' ≡ sets value k (values part) → k' ≡ k + length part
+  pub stores_on : {at' value' : List ℕ} {k' : ℕ} (part : List Store) {behind : List Store} → rest ≡ part ++ behind
+      → at' ≡ sets at k (word_numbers part) → value' ≡ sets value k (values part) → k' ≡ k + length part
       → StoresFill at₀ value₀ k₀ all at' value' k' behind
-  stores-on part {behind} e f h q =
+  stores_on part {behind} e f h q =
       record {
-        ats = fill_on g.ats (wordNumbers part) (ap wordNumbers e ∙ numbers-append part behind) f (omega (arith, q, numbers-length part));
-        vals = fill_on g.vals (values part) (ap values e ∙ values-append part behind) h (omega (arith, q, values_length part));
+        ats = fill_on g.ats (word_numbers part) (ap word_numbers e ∙ numbers_append part behind) f (omega (arith, q, numbers-length part));
+        vals = fill_on g.vals (values part) (ap values e ∙ values_append part behind) h (omega (arith, q, values_length part));
       }
 
-  pub stores-end : rest ≡ [] → (at ≡ sets at₀ k₀ (wordNumbers all)) × (value ≡ sets value₀ k₀ (values all))
-  unfolding wordNumbers values
-  stores-end e = (fill-ends g.ats (ap wordNumbers e), fill-ends g.vals (ap values e))
+  pub stores_end : rest ≡ [] → (at ≡ sets at₀ k₀ (word_numbers all)) × (value ≡ sets value₀ k₀ (values all))
+  unfolding word_numbers values
+  stores_end e = (fill_ends g.ats (ap word_numbers e), fill_ends g.vals (ap values e))
 
-  pub stores-room : k + length rest ≡ k₀ + length all
-  stores-room = omega (arith, g.ats.room, numbers-length rest, numbers-length all)
+  pub stores_room : k + length rest ≡ k₀ + length all
+  stores_room = omega (arith, g.ats.room, numbers-length rest, numbers-length all)
 
 -- ---- play of the list
 
-number-inside : {n : ℕ} {ss : List Store} → StoresInside n ss → (i : ℕ) → i < length ss → 8 * get_or (wordNumbers ss) i 0 + 8 ≤ n
-unfolding wordNumbers
-number-inside nil-in i h = absurd (omega arith)
-number-inside (cons-in p b r) zero h = p
-number-inside (cons-in p b r) (suc i) h = number-inside r i (omega arith)
+number_inside : {n : ℕ} {ss : List Store} → StoresInside n ss → (i : ℕ) → i < length ss → 8 * get_or (word_numbers ss) i 0 + 8 ≤ n
+unfolding word_numbers
+number_inside nil_in i h = absurd (omega arith)
+number_inside (cons_in p b r) zero h = p
+number_inside (cons_in p b r) (suc i) h = number_inside r i (omega arith)
 
 pub list_inside : (image : List ℕ) (ss : List Store) → StoresInside (length image) ss
-    → playListResult image (wordNumbers ss) (values ss) ≡ playEnd 0 (played ss image)
-unfolding playListResult
+    → play_list_result image (word_numbers ss) (values ss) ≡ play_end 0 (played ss image)
+unfolding play_list_result
 list_inside image ss r =
-    ap₂ playEnd (sym fine)
-    (taken-leaves (played (zipped (wordNumbers ss) (values ss)) image) image (listFault (length image) (wordNumbers ss) (length (values ss))) (sym fine)
-    ∙ ap (λ (t : List Store). played t image) (zipped-back ss))
+    ap₂ play_end (sym fine)
+    (taken_leaves (played (zipped (word_numbers ss) (values ss)) image) image (list_fault (length image) (word_numbers ss) (length (values ss))) (sym fine)
+    ∙ ap (λ (t : List Store). played t image) (zipped_back ss))
   where
-    fine : 0 ≡ listFault (length image) (wordNumbers ss) (length (values ss))
+    fine : 0 ≡ list_fault (length image) (word_numbers ss) (length (values ss))
     fine =
-        list-fine (length image) (wordNumbers ss) (length (values ss)) (numbers-length ss ∙ sym (values_length ss)) false
+        list_fine (length image) (word_numbers ss) (length (values ss)) (numbers-length ss ∙ sym (values_length ss)) false
         (sym
-        (any-clear (λ i. ltb (length image) (8 * get_or (wordNumbers ss) i 0 + 8)) 0 (length (wordNumbers ss))
-        (λ i h. le-ltb (length image) (8 * get_or (wordNumbers ss) (0 + i) 0 + 8) (number-inside r (0 + i) (omega (arith, numbers-length ss)))))) refl
+        (any_clear (λ i. ltb (length image) (8 * get_or (word_numbers ss) i 0 + 8)) 0 (length (word_numbers ss))
+        (λ i h. le-ltb (length image) (8 * get_or (word_numbers ss) (0 + i) 0 + 8) (number_inside r (0 + i) (omega (arith, numbers-length ss)))))) refl

@@ -2,7 +2,7 @@
 -- number and a value, sixteen for each key".
 use Rattle.std.specs.Prelude.{List, [], ◌∷◌, ◌++◌, ℕ}
 use Rattle.stores.specs.Store.{Store}
-use Rattle.stores.specs.Written.{recordStores}
+use Rattle.stores.specs.Written.{record_stores}
 
 -- a record of a basket, and the slot into which it is to be written
 pub record BasketRecord : Type 0 where
@@ -12,13 +12,13 @@ pub record BasketRecord : Type 0 where
   pub value : List ℕ
 
 -- the slots of these records
-unfoldable pub basketSlots : List BasketRecord → List ℕ
-basketSlots [] = []
-basketSlots (e ∷ es) = e.slot ∷ basketSlots es
+unfoldable pub basket_slots : List BasketRecord → List ℕ
+basket_slots [] = []
+basket_slots (e ∷ es) = e.slot ∷ basket_slots es
 
 -- "Its records share one version, and bits 16 to 23 of the kind word hold their number": their stores; the close bits
 -- are those that stand in the words m
-unfoldable pub basketStores : (l : ℕ) → (m : ℕ → ℕ) → (number version : ℕ) → List BasketRecord → List Store
-basketStores l m number version [] = []
-basketStores l m number version (e ∷ es) =
-    recordStores l m e.slot e.key e.kind number e.value version ++ basketStores l m number version es
+unfoldable pub basket_stores : (l : ℕ) → (m : ℕ → ℕ) → (number version : ℕ) → List BasketRecord → List Store
+basket_stores l m number version [] = []
+basket_stores l m number version (e ∷ es) =
+    record_stores l m e.slot e.key e.kind number e.value version ++ basket_stores l m number version es

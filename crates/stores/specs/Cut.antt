@@ -5,14 +5,14 @@ use Rattle.words.specs.Word.{AreBytes}
 use Rattle.prelude.specs.Members.{All, In}
 use Rattle.layout.specs.Line.{line, whole}
 use Rattle.layout.specs.Record.{Layout, limit}
-use Rattle.layout.specs.Content.{Content, broken, contentOfRecord, content, highestWhole, highestWholeIn, sizeFieldIn}
-use Rattle.layout.specs.Fault.{recordFault}
-use Rattle.stores.specs.Store.{Store, standing, playedWords}
-use Rattle.stores.specs.Basket.{BasketRecord, basketSlots}
+use Rattle.layout.specs.Content.{Content, broken, content_of_record, content, highest_whole, highest_whole_in, size_field_in}
+use Rattle.layout.specs.Fault.{record_fault}
+use Rattle.stores.specs.Store.{Store, standing, played_words}
+use Rattle.stores.specs.Basket.{BasketRecord, basket_slots}
 
 -- the words after a cut that leaves `counts n` stores of line n
-abbrev pub afterCut : (counts : ℕ → ℕ) → List Store → (ℕ → ℕ) → ℕ → ℕ
-afterCut counts ss m = playedWords (standing counts ss) m
+abbrev pub after_cut : (counts : ℕ → ℕ) → List Store → (ℕ → ℕ) → ℕ → ℕ
+after_cut counts ss m = played_words (standing counts ss) m
 
 -- what k stores make of a line: `old` before, `new` with all stores, `now` after
 pub data LineCut (old new now : ℕ → ℕ) (k : ℕ) : Type 0 where
@@ -42,26 +42,26 @@ pub data LawfulNumber (number : ℕ) : Type 0 where
 
 -- a put, or a remove, which has no value
 pub data Lawful (kind number : ℕ) (value : List ℕ) : Type 0 where
-  a-put : kind ≡ 1 → LawfulNumber number → Lawful kind number value
-  a-remove : kind ≡ 2 → value ≡ [] → LawfulNumber number → Lawful kind number value
+  a_put : kind ≡ 1 → LawfulNumber number → Lawful kind number value
+  a_remove : kind ≡ 2 → value ≡ [] → LawfulNumber number → Lawful kind number value
 
 -- a record was written into slot s with a stores standing on line A and b on line B, the words were m and are m': what
 -- is left of that slot
 pub record SlotWritten (l : ℕ) (m m' : ℕ → ℕ) (s key kind number : ℕ) (value : List ℕ) (version a b : ℕ) : Type 0 where
-  pub cut : SlotCut (content l m s) (contentOfRecord kind version key value) (content l m' s) version a b
-  pub number-old : a ≡ 0 → sizeFieldIn l m' s ≡ sizeFieldIn l m s
-  pub number-new : 8 ≤ a → sizeFieldIn l m' s ≡ number
-  pub top_below : highestWhole m' s ≤ version
-  pub top-full : (8 ≤ a) ⊎ (8 ≤ b) → highestWhole m' s ≡ version
+  pub cut : SlotCut (content l m s) (content_of_record kind version key value) (content l m' s) version a b
+  pub number_old : a ≡ 0 → size_field_in l m' s ≡ size_field_in l m s
+  pub number_new : 8 ≤ a → size_field_in l m' s ≡ number
+  pub top_below : highest_whole m' s ≤ version
+  pub top_full : (8 ≤ a) ⊎ (8 ≤ b) → highest_whole m' s ≡ version
 
 -- the words were m and are m', and stores went only into the slots that `written` names: the other slots stay, and no
 -- slot has a new fault
 pub record Confined (l : ℕ) (m m' : ℕ → ℕ) (written : ℕ → Type 0) : Type 0 where
   pub others : (t : ℕ) → (written t → ⊥) → content l m' t ≡ content l m t
-  pub numbers : (t : ℕ) → (written t → ⊥) → sizeFieldIn l m' t ≡ sizeFieldIn l m t
+  pub numbers : (t : ℕ) → (written t → ⊥) → size_field_in l m' t ≡ size_field_in l m t
   pub elsewhere : (i : ℕ) → (written (i / 16) → ⊥) → m' i ≡ m i
   pub marks : (n : ℕ) → line m n 0 ≤ 1 → line m' n 0 ≤ 1
-  pub faults : (t : ℕ) → recordFault l m t ≡ 0 → recordFault l m' t ≡ 0
+  pub faults : (t : ℕ) → record_fault l m t ≡ 0 → record_fault l m' t ≡ 0
 
 -- the same of the whole image, where one record was written
 pub record Written (l : ℕ) (m m' : ℕ → ℕ) (s key kind number : ℕ) (value : List ℕ) (version a b : ℕ) : Type 0 where
@@ -73,20 +73,20 @@ pub record Written (l : ℕ) (m m' : ℕ → ℕ) (s key kind number : ℕ) (val
 pub record LawfulRecord (l : ℕ) (m : ℕ → ℕ) (number version : ℕ) (e : BasketRecord) : Type 0 where
   pub fields : Fields l e.key e.kind number e.value
   pub lawful : Lawful e.kind number e.value
-  pub above : highestWhole m e.slot < version
+  pub above : highest_whole m e.slot < version
 
 -- these records were written, with `counts n` of the stores of line n standing: the words were m and are m'
 pub record AllWritten (l : ℕ) (m m' : ℕ → ℕ) (number version : ℕ) (records : List BasketRecord) (counts : ℕ → ℕ) : Type 0 where
   pub each :
       All (λ (e : BasketRecord). SlotWritten l m m' e.slot e.key e.kind number e.value version (counts (2 * e.slot)) (counts (2 * e.slot + 1)))
       records
-  pub rest : Confined l m m' (λ t. In t (basketSlots records))
+  pub rest : Confined l m m' (λ t. In t (basket_slots records))
 
 -- slot s was to be opened, with k stores standing on its line A: it is as it was, or broken with the version that it
 -- had, which line B still carries
 pub data SlotInvalidated (l : ℕ) (m m' : ℕ → ℕ) (s k : ℕ) : Type 0 where
-  shut : k ≡ 0 → content l m' s ≡ content l m s → sizeFieldIn l m' s ≡ sizeFieldIn l m s → SlotInvalidated l m m' s k
-  opened : 0 < k → content l m' s ≡ broken (highestWholeIn (content l m s)) → sizeFieldIn l m' s ≡ sizeFieldIn l m s → SlotInvalidated l m m' s k
+  shut : k ≡ 0 → content l m' s ≡ content l m s → size_field_in l m' s ≡ size_field_in l m s → SlotInvalidated l m m' s k
+  opened : 0 < k → content l m' s ≡ broken (highest_whole_in (content l m s)) → size_field_in l m' s ≡ size_field_in l m s → SlotInvalidated l m m' s k
 
 -- these slots were to be opened, with `counts n` of the stores of line n standing: the words were m and are m'
 pub record AllInvalidated (l : ℕ) (m m' : ℕ → ℕ) (slots : List ℕ) (counts : ℕ → ℕ) : Type 0 where

@@ -5,10 +5,10 @@ use Rattle.layout.specs.Line.{line, first_word}
 use Rattle.stores.specs.Store.{Store}
 
 -- the store that opens line A of slot s; the close bit is the one that stands in the words m
-unfoldable pub invalidatingStore : (m : ℕ → ℕ) → (s : ℕ) → Store
-invalidatingStore m s = record { word = 16 * s; value = first_word (line m (2 * s) 7) }
+unfoldable pub invalidating_store : (m : ℕ → ℕ) → (s : ℕ) → Store
+invalidating_store m s = record { word = 16 * s; value = first_word (line m (2 * s) 7) }
 
 -- those of these slots
-unfoldable pub invalidatingStores : (m : ℕ → ℕ) → List ℕ → List Store
-invalidatingStores m [] = []
-invalidatingStores m (s ∷ slots) = invalidatingStore m s ∷ invalidatingStores m slots
+unfoldable pub invalidating_stores : (m : ℕ → ℕ) → List ℕ → List Store
+invalidating_stores m [] = []
+invalidating_stores m (s ∷ slots) = invalidating_store m s ∷ invalidating_stores m slots

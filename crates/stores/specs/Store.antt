@@ -1,7 +1,7 @@
 -- Stores, what playing them makes of an image, and which of them stand after a power cut. Document 01, "How a call
 -- writes".
 use Rattle.std.specs.Prelude.{Bool, true, false, cond, List, [], ◌∷◌, ℕ, ◌-◌, ◌/◌, eqb}
-use Rattle.words.specs.Word.{setWord}
+use Rattle.words.specs.Word.{set_word}
 use Rattle.stores.specs.declared.Store.{Store as StoreStruct}
 
 -- "a word number (32 bits, counted from the start of the image) and a 64-bit value": the struct of that name
@@ -17,16 +17,16 @@ zipped (w ∷ at) (v ∷ value) = record { word = w; value = v } ∷ zipped at v
 -- "A store sets one aligned word whole": the bytes of the image after these stores, in order
 unfoldable pub played : List Store → List ℕ → List ℕ
 played [] image = image
-played (s ∷ ss) image = played ss (setWord image s.word s.value)
+played (s ∷ ss) image = played ss (set_word image s.word s.value)
 
 -- the words of an image after one store
 unfoldable pub stored : Store → (ℕ → ℕ) → ℕ → ℕ
 stored s m i = cond (eqb i s.word) s.value (m i)
 
 -- and after these stores, in order
-unfoldable pub playedWords : List Store → (ℕ → ℕ) → ℕ → ℕ
-playedWords [] m = m
-playedWords (s ∷ ss) m = playedWords ss (stored s m)
+unfoldable pub played_words : List Store → (ℕ → ℕ) → ℕ → ℕ
+played_words [] m = m
+played_words (s ∷ ss) m = played_words ss (stored s m)
 
 -- the counts with one fewer for line n
 unfoldable pub less : ℕ → (ℕ → ℕ) → ℕ → ℕ
@@ -40,17 +40,17 @@ standing counts (s ∷ ss) =
     cond (eqb (counts (s.word / 8)) 0) (standing counts ss) (s ∷ standing (less (s.word / 8) counts) ss)
 
 -- the others, which do not stand
-unfoldable pub notStanding : (counts : ℕ → ℕ) → List Store → List Store
-notStanding counts [] = []
-notStanding counts (s ∷ ss) =
-    cond (eqb (counts (s.word / 8)) 0) (s ∷ notStanding counts ss) (notStanding (less (s.word / 8) counts) ss)
+unfoldable pub not_standing : (counts : ℕ → ℕ) → List Store → List Store
+not_standing counts [] = []
+not_standing counts (s ∷ ss) =
+    cond (eqb (counts (s.word / 8)) 0) (s ∷ not_standing counts ss) (not_standing (less (s.word / 8) counts) ss)
 
 -- do all of them stand?
-unfoldable pub allStand : (counts : ℕ → ℕ) → List Store → Bool
-allStand counts [] = true
-allStand counts (s ∷ ss) = cond (eqb (counts (s.word / 8)) 0) false (allStand (less (s.word / 8) counts) ss)
+unfoldable pub all_stand : (counts : ℕ → ℕ) → List Store → Bool
+all_stand counts [] = true
+all_stand counts (s ∷ ss) = cond (eqb (counts (s.word / 8)) 0) false (all_stand (less (s.word / 8) counts) ss)
 
 -- the stores of line n
-unfoldable pub onLine : ℕ → List Store → List Store
-onLine n [] = []
-onLine n (s ∷ ss) = cond (eqb (s.word / 8) n) (s ∷ onLine n ss) (onLine n ss)
+unfoldable pub on_line : ℕ → List Store → List Store
+on_line n [] = []
+on_line n (s ∷ ss) = cond (eqb (s.word / 8) n) (s ∷ on_line n ss) (on_line n ss)

@@ -1,7 +1,7 @@
 // What play refuses.
 ghost use Rattle.std.specs.Prelude.{◌≡◌, not, ◌+◌, ◌*◌, ◌≤◌, ◌<◌, ◌^◌, eqb, ltb, length, get_or};
 ghost use Rattle.prelude.specs.Range.{any_of};
-ghost use Rattle.stores.specs.Play.{halfFault, halvesFault, playFault, listFault};
+ghost use Rattle.stores.specs.Play.{half_fault, halves_fault, play_fault, list_fault};
 
 use layout_code::header::slot_count;
 
@@ -30,7 +30,7 @@ fn out_of_order(at: &[u32; 16], k: usize, first: usize) -> bool
 // Are the eight stores from k on not those of a line inside len bytes?
 fn half_fault(len: usize, at: &[u32; 16], k: usize) -> bool
     requires { k ≤ 8 }
-    ensures { result ≡ halfFault len at.now k }
+    ensures { result ≡ half_fault len at.now k }
 {
     let first = as_index(at[k]);
     if first % 8 != 0 {
@@ -44,7 +44,7 @@ fn half_fault(len: usize, at: &[u32; 16], k: usize) -> bool
 
 // 15 by the two halves, else 0.
 fn halves_fault(len: usize, at: &[u32; 16]) -> u32
-    ensures { result ≡ halvesFault len at.now }
+    ensures { result ≡ halves_fault len at.now }
 {
     if half_fault(len, at, 0) {
         return 15;
@@ -60,7 +60,7 @@ fn halves_fault(len: usize, at: &[u32; 16]) -> u32
 
 // 1, 14 or 15 by what play is given, else 0.
 pub fn play_fault(len: usize, at: &[u32; 16], a: usize, b: usize) -> u32
-    ensures result { result ≡ playFault len at.now a b }
+    ensures result { result ≡ play_fault len at.now a b }
 {
     if slot_count(len) == 0 {
         return 1;
@@ -91,7 +91,7 @@ fn any_outside(len: usize, at: &[u32]) -> bool
 
 // 15 by a list of stores, else 0.
 pub fn list_fault(len: usize, at: &[u32], values: usize) -> u32
-    ensures result { result ≡ listFault len at.now values }
+    ensures result { result ≡ list_fault len at.now values }
 {
     if at.len() != values {
         return 15;

@@ -36,10 +36,10 @@ use denote.Triple.Statement.{Contract, Triple}
 use denote.Triple.Call.{calls_at}
 use denote.Triple.Clauses.{ensured, lasts}
 use denote.Triple.Walked.{says}
-use Rattle.mir_steps.proofs.Arrays.{LentArray, arrayCell, array-lent, array_back}
-use Rattle.mir_steps.proofs.Lent.{lent_at, OwnsMut, OwnsShr, number-owned}
+use Rattle.mir_steps.proofs.Arrays.{LentArray, array_cell, array_lent, array_back}
+use Rattle.mir_steps.proofs.Lent.{lent_at, OwnsMut, OwnsShr, number_owned}
 use Rattle.stores.specs.Store.{Store}
-use Rattle.stores.specs.inner.List.{storesPut}
+use Rattle.stores.specs.inner.List.{stores_put}
 use Rattle.stores.specs.contracts.Store as T
 use Rattle.stores_list_code.specs.contracts.list.fill_store_list as f
 use Rattle.stores_list_code.specs.contracts.list.fill_store_list.Key.{name as #fill-store-list}
@@ -51,26 +51,26 @@ Put 𝓛 mem run = triple_of 𝓛 f.signature (f.spec 𝓛 mem run)
 pub record Arrays (size : ℕ) (at words : List ℕ) (n room : ℕ) : Type 2 where
   pub few : size < 2 ^ 32
   pub is_at : Is (Array u32 size) at (array_vals (uint_vals w32) at)
-  pub is-words : Is (Array u64 size) words (array_vals (uint_vals w64) words)
+  pub is_words : Is (Array u64 size) words (array_vals (uint_vals w64) words)
   pub fits : n < 2 ^ 64
-  pub in-room : n ≤ room
-  pub in-arrays : n ≤ size
+  pub in_room : n ≤ room
+  pub in_arrays : n ≤ size
 
 module _ (size : ℕ) (at words : List ℕ) (n room : ℕ) (h : Arrays size at words n room) where
   at_size : length at ≡ size
   at_size = h.is_at.1.0.1
 
   words_size : length words ≡ size
-  words_size = h.is-words.1.0.1
+  words_size = h.is_words.1.0.1
 
   at_room : Room u32 (length at)
   at_room = (omega (arith, at_size, h.few), omega (arith, at_size, h.few))
 
-  words-room : Room u64 (length words)
-  words-room = (omega (arith, words_size, h.few), omega (arith, words_size, h.few))
+  words_room : Room u64 (length words)
+  words_room = (omega (arith, words_size, h.few), omega (arith, words_size, h.few))
 
   within : (n ≤ room) × (n ≤ length at) × (n ≤ length words)
-  within = (h.in-room, omega (arith, h.in-arrays, at_size), omega (arith, h.in-arrays, words_size))
+  within = (h.in_room, omega (arith, h.in_arrays, at_size), omega (arith, h.in_arrays, words_size))
 
 -- the arrays lie at l₁ and l₂, and are lent for α and β
 module _ {M : Type 1} {𝓤 : Ura M} (𝓛 : Logic 𝓤) (mem : Memory → SProp 𝓤) (run : Routine → Fun 𝓤) (κ : Lft) (q : Share) (b o : ℕ)
@@ -100,7 +100,7 @@ module _ {M : Type 1} {𝓤 : Ura M} (𝓛 : Logic 𝓤) (mem : Memory → SProp
   passes =
       qed 𝓛 Passed ∵ says ! (within size at words n (length list) h) $ nothing ! $ move ! (3 ∷ 0 ∷ []) $ join ! $ move ! (2 ∷ 0 ∷ []) $ join ! $ move !
       (1 ∷ 0 ∷ []) $ join ! $ frame ! $
-      nothing ! $ number-owned ! w64 n h.fits $ fjoin ! $ move ! (3 ∷ 0 ∷ []) $ fjoin ! $ move ! (2 ∷ 0 ∷ []) $ fjoin ! $ move ! (1 ∷ 0 ∷ []) $ fjoin ! $
+      nothing ! $ number_owned ! w64 n h.fits $ fjoin ! $ move ! (3 ∷ 0 ∷ []) $ fjoin ! $ move ! (2 ∷ 0 ∷ []) $ fjoin ! $ move ! (1 ∷ 0 ∷ []) $ fjoin ! $
       done !
 
 module _ {M : Type 1} {𝓤 : Ura M} {𝓛 : Logic 𝓤} {K : Type 0} {Γ : List (Item 𝓤)} {E : Env 𝓤 𝓛.H} {C : Calls 𝓤 𝓛.H} {Λ : Loops 𝓤 𝓛.H}
@@ -111,15 +111,15 @@ module _ {M : Type 1} {𝓤 : Ura M} {𝓛 : Logic 𝓤} {K : Type 0} {Γ : List
       → (κ : Lft) (q : Share) (b o : ℕ) (γ : GName) (list : List Store) (size : ℕ) (at words : List ℕ) (n : ℕ) → Arrays size at words n (length list)
       → (l₁ l₂ : ℕ)
       → ((i j k : Item 𝓤) → Opds K 𝓛 (i ∷ j ∷ k ∷ Γ) E xs (slice_val (b, o) (length list) ∷ slice_val (l₁, 0) size ∷ slice_val (l₂, 0) size ∷ vint w64 n ∷ []))
-      → ((w : Val) → Typed unit.mir (w ∷ []) → (zs : List Store) → zs ≡ storesPut at words n list → length zs ≡ length list
-      → Seq K 𝓛 (‵ (arrayCell w32 size at l₁) ∷ ‵ (arrayCell w64 size words l₂) ∷ ‵ (flft κ q) ∷ ‵ (finally T.the_row γ zs) ∷ Γ) (lands C Λ E d w rest p))
-      → Seq K 𝓛 (‵ (arrayCell w32 size at l₁) ∷ ‵ (arrayCell w64 size words l₂) ∷ ‵ (flft κ q) ∷ ‵
+      → ((w : Val) → Typed unit.mir (w ∷ []) → (zs : List Store) → zs ≡ stores_put at words n list → length zs ≡ length list
+      → Seq K 𝓛 (‵ (array_cell w32 size at l₁) ∷ ‵ (array_cell w64 size words l₂) ∷ ‵ (flft κ q) ∷ ‵ (finally T.the_row γ zs) ∷ Γ) (lands C Λ E d w rest p))
+      → Seq K 𝓛 (‵ (array_cell w32 size at l₁) ∷ ‵ (array_cell w64 size words l₂) ∷ ‵ (flft κ q) ∷ ‵
       (OwnsMut T.the_row κ b o γ list (slice_val (b, o) (length list) ∷ [])) ∷ Γ)
       (runs C Λ E (seq (call #fill-store-list xs d) rest) p)
   puts t fm mem run met κ q b o γ list size at words n h l₁ l₂ os k =
       lft_new t tt (λ α. lft_new t tt (λ β.
-      move t (2 ∷ []) $ array-lent t tt w32 size at l₁ (α ∷ []) h.is_at (at_room size at words n (length list) h) (λ δ.
-      move t (4 ∷ []) $ array-lent t tt w64 size words l₂ (β ∷ []) h.is-words (words-room size at words n (length list) h) (λ ε.
+      move t (2 ∷ []) $ array_lent t tt w32 size at l₁ (α ∷ []) h.is_at (at_room size at words n (length list) h) (λ δ.
+      move t (4 ∷ []) $ array_lent t tt w64 size words l₂ (β ∷ []) h.is_words (words_room size at words n (length list) h) (λ ε.
       -- [words, lent, and the lender's part; at's two; the tokens β and α; the list's token and the list; …]
       move t (6 ∷ 5 ∷ 4 ∷ 7 ∷ 2 ∷ 0 ∷ []) $ group t 6 $
       use1 𝓛 (raw ((Put 𝓛 mem run).pre (ghosts 𝓛 mem run κ q b o γ list size at words n h l₁ l₂ α β δ ε)))
@@ -140,8 +140,8 @@ module _ {M : Type 1} {𝓤 : Ura M} {𝓛 : Logic 𝓤} {K : Type 0} {Γ : List
       split t $ move t (1 ∷ []) $ use1 𝓛
       (some (λ (zs : List Store × (Unit {0} × (Unit {0} × (Unit {0} × Unit {0})))). ‵
       (lasts f.ended (κ, (α ∷ [], (β ∷ [], tt))) (args 𝓛 mem run κ q b o γ list size at words n h l₁ l₂ α β δ ε) zs) ⊛ raw
-      (fact 𝓤 (zs.0 ≡ storesPut at words n list)))) (id⊢ 𝓤 _) $ pick t (λ zs.
-      split t $ move t (1 ∷ []) $ heard t (zs.0 ≡ storesPut at words n list)
+      (fact 𝓤 (zs.0 ≡ stores_put at words n list)))) (id⊢ 𝓤 _) $ pick t (λ zs.
+      split t $ move t (1 ∷ []) $ heard t (zs.0 ≡ stores_put at words n list)
       (λ e. fsplit t $ fsplit t $ move t (1 ∷ []) $ feq_l t (λ ez. move t (1 ∷ []) $ drop t $
       -- [the list's last list; the tokens and the result; words' and at's lender's parts; …]
       move t (1 ∷ []) $ split t $ move t (1 ∷ []) $ facts t unit (Is unit) (shows 𝓛 unit) r (w ∷ []) (λ is-unit.

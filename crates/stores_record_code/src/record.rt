@@ -1,12 +1,12 @@
 // The 16 stores of a record. `l` is the layout; a key is two words, the high one 0 in layout 1.
 ghost use Rattle.std.specs.Prelude.{◌≡◌, [], ◌∷◌, ◌+◌, ◌*◌, ◌^◌, ◌≤◌, ◌<◌, length};
 ghost use Rattle.words.specs.Word.{word};
-ghost use Rattle.layout.specs.Record.{Layout, keyWith, keyWord, kindWord};
-ghost use Rattle.layout.specs.Moved.{wordsMoved};
+ghost use Rattle.layout.specs.Record.{Layout, key_with, key_word, kind_word};
+ghost use Rattle.layout.specs.Moved.{words_moved};
 ghost use Rattle.stores.specs.Store.{zipped};
-ghost use Rattle.stores.specs.Written.{body_a, recordStores};
-ghost use Rattle.stores.specs.Play.{wordNumbers, values};
-ghost use Rattle.stores.specs.inner.Written.{recordNumbers, recordWords, pasted};
+ghost use Rattle.stores.specs.Written.{body_a, record_stores};
+ghost use Rattle.stores.specs.Play.{word_numbers, values};
+ghost use Rattle.stores.specs.inner.Written.{record_numbers, record_words, pasted};
 ghost use Rattle.stores.specs.inner.Needs.{Recordable};
 
 use crate::value::fill_value;
@@ -16,7 +16,7 @@ use words_code::read_word;
 // Word i of a key.
 fn key_word(low: u64, high: u64, i: usize) -> u64
     requires { i < 2 }
-    ensures { result ≡ keyWord (keyWith low high) i }
+    ensures { result ≡ key_word (key_with low high) i }
 {
     if i == 0 {
         return low;
@@ -27,7 +27,7 @@ fn key_word(low: u64, high: u64, i: usize) -> u64
 // The kind word.
 fn kind_word(kind: u64, size: usize, number: u64) -> u64
     requires { (kind < 256) × (size < 256) × (number < 256) }
-    ensures { result ≡ kindWord kind size number }
+    ensures { result ≡ kind_word kind size number }
 {
     kind + 256 * (size as u64) + 65536 * number
 }
@@ -35,7 +35,7 @@ fn kind_word(kind: u64, size: usize, number: u64) -> u64
 // Word i of line A, between mark and stamp, of a record without a value whose kind word is w.
 fn frame_word(l: usize, low: u64, high: u64, w: u64, i: usize) -> u64
     requires { Layout l × (1 ≤ i) × (i ≤ 6) }
-    ensures { result ≡ body_a l (keyWith low high) w 0 [] i }
+    ensures { result ≡ body_a l (key_with low high) w 0 [] i }
 {
     if i < l + 1 {
         return key_word(low, high, i - 1);
@@ -49,7 +49,7 @@ fn frame_word(l: usize, low: u64, high: u64, w: u64, i: usize) -> u64
 // The word numbers of the stores for slot s, from position from on.
 fn fill_numbers(s: u32, at: &mut [u32], from: usize)
     requires { (s < 65536) × (from + 16 ≤ length at.old) }
-    ensures { at.new ≡ pasted at.old from (recordNumbers s) 16 }
+    ensures { at.new ≡ pasted at.old from (record_numbers s) 16 }
 {
     let mut k = 0;
     let mut w = 16 * s;
@@ -89,7 +89,7 @@ fn fill_frame(
     from: usize,
 )
     requires { Layout l × (version < 2 ^ 63) × (from + 16 ≤ length words.old) }
-    ensures { words.new ≡ pasted words.old from (recordWords l a b (keyWith low high) w 0 [] version) 16 }
+    ensures { words.new ≡ pasted words.old from (record_words l a b (key_with low high) w 0 [] version) 16 }
 {
     let two = frame_word(l, low, high, w, 2);
     let three = frame_word(l, low, high, w, 3);
@@ -134,11 +134,11 @@ pub fn record_stores_at(
         (from + 16 ≤ length words.old) }
     ensures stores { (at.new
         ≡ pasted at.old from
-        (wordNumbers (recordStores l (word image.now) s (keyWith low high) kind number value.now version)) 16)
+        (word_numbers (record_stores l (word image.now) s (key_with low high) kind number value.now version)) 16)
         × (words.new
         ≡ pasted words.old from
-        (values (recordStores l (word image.now) s (keyWith low high) kind number value.now version)) 16) }
-    ensures moved { result ≡ wordsMoved (length value.now) }
+        (values (record_stores l (word image.now) s (key_with low high) kind number value.now version)) 16) }
+    ensures moved { result ≡ words_moved (length value.now) }
 {
     let slot = s as usize;
     let a = read_word(image, 16 * slot + 7);
@@ -165,8 +165,8 @@ pub fn record_stores(
 ) -> usize
     requires { Recordable l kind number value.now version × (s < 65536) × (128 * (s + 1) ≤ length image.now) }
     ensures stores { zipped at.new words.new
-        ≡ recordStores l (word image.now) s (keyWith low high) kind number value.now version }
-    ensures moved { result ≡ wordsMoved (length value.now) }
+        ≡ record_stores l (word image.now) s (key_with low high) kind number value.now version }
+    ensures moved { result ≡ words_moved (length value.now) }
 {
     record_stores_at(
         image, l, s, low, high, kind, number, value, version, at, words, 0,
@@ -187,7 +187,7 @@ pub fn remove_stores(
 )
     requires { Layout l × (number < 256) × (version < 2 ^ 63) × (s < 65536) × (128 * (s + 1) ≤ length image.now) }
     ensures result { zipped at.new words.new
-        ≡ recordStores l (word image.now) s (keyWith low high) 2 number [] version }
+        ≡ record_stores l (word image.now) s (key_with low high) 2 number [] version }
 {
     let slot = s as usize;
     let a = read_word(image, 16 * slot + 7);

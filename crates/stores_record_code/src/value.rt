@@ -1,9 +1,9 @@
 // The value of a record goes into its stores, a word a step. `l` is the layout.
 ghost use Rattle.std.specs.Prelude.{◌≡◌, ◌+◌, ◌*◌, ◌<◌, ◌≤◌, length, set};
 ghost use Rattle.words.specs.Word.{word};
-ghost use Rattle.layout.specs.Record.{Layout, limit, valuePlace};
-ghost use Rattle.layout.specs.Moved.{wordsMoved};
-ghost use Rattle.stores.specs.inner.Written.{withValue};
+ghost use Rattle.layout.specs.Record.{Layout, limit, value_place};
+ghost use Rattle.layout.specs.Moved.{words_moved};
+ghost use Rattle.stores.specs.inner.Written.{with_value};
 
 use layout_code::value::value_place;
 use words_code::{padded_word, read_word};
@@ -12,7 +12,7 @@ use words_code::{padded_word, read_word};
 // the next step.
 fn fill_word(l: usize, value: &[u8], words: &mut [u64], from: usize, i: usize) -> usize
     requires { Layout l × (length value.now ≤ limit l) × (8 * i + 8 ≤ length value.now) × (from + 16 ≤ length words.old) }
-    ensures { (result ≡ i + 1) × (words.new ≡ set words.old (from + valuePlace l i) (word value.now i)) }
+    ensures { (result ≡ i + 1) × (words.new ≡ set words.old (from + value_place l i) (word value.now i)) }
 {
     let place = value_place(l, i);
     words[from + place] = read_word(value, i);
@@ -22,7 +22,7 @@ fn fill_word(l: usize, value: &[u8], words: &mut [u64], from: usize, i: usize) -
 // Step i for the bytes that are left.
 fn fill_rest(l: usize, value: &[u8], words: &mut [u64], from: usize, i: usize) -> usize
     requires { Layout l × (length value.now ≤ limit l) × (8 * i < length value.now) × (from + 16 ≤ length words.old) }
-    ensures { (result ≡ i + 1) × (words.new ≡ set words.old (from + valuePlace l i) (word value.now i)) }
+    ensures { (result ≡ i + 1) × (words.new ≡ set words.old (from + value_place l i) (word value.now i)) }
 {
     let place = value_place(l, i);
     words[from + place] = padded_word(value, i);
@@ -33,8 +33,8 @@ fn fill_rest(l: usize, value: &[u8], words: &mut [u64], from: usize, i: usize) -
 // step tests nothing but their number. The count of steps.
 pub fn fill_value(l: usize, value: &[u8], words: &mut [u64], from: usize) -> usize
     requires { Layout l × (length value.now ≤ limit l) × (from + 16 ≤ length words.old) }
-    ensures result { (result ≡ wordsMoved (length value.now)) ×
-        (words.new ≡ withValue l value.now from (wordsMoved (length value.now)) words.old) }
+    ensures result { (result ≡ words_moved (length value.now)) ×
+        (words.new ≡ with_value l value.now from (words_moved (length value.now)) words.old) }
 {
     let whole = value.len() / 8;
     let mut i = 0;

@@ -5,141 +5,141 @@ use Prim.Native.Nat.{ℕ, suc, ◌≤◌, ◌<◌}
 use native.Mathlib.Omega.{arith}
 use lib.Dec.{eqb, ltb}
 use borrow.Author.Tests.{eqb-true, ne_eqb, eq-eqb, leb-true, le-leb, ltb-true, lt-ltb, ltb-false}
-use Rattle.layout.specs.Content.{Table, highestWholeIn, Content, broken}
+use Rattle.layout.specs.Content.{Table, highest_whole_in, Content, broken}
 use Rattle.prelude.specs.Members.{Slot}
 use Rattle.prelude.specs.Range.{topmost}
-use Rattle.prelude.proofs.Choice.{pick-false, both, both_left, both_right, pick_true, is_false, true-false}
+use Rattle.prelude.proofs.Choice.{pick_false, both, both_left, both_right, pick_true, is_false, true-false}
 use Rattle.prelude.proofs.Count.{count_same}
-use Rattle.prelude.proofs.Most.{greatest-above, greatest-least, first-is, First, nowhere, there, greatest-same}
-use Rattle.table.specs.Complete.{sizeFieldFor, basketSize, hasVersion, sharers, SizeFields, complete, highestComplete, versionIfComplete, isVoid, settled}
-use Rattle.table.specs.Table.{isRecord, nextVersion}
+use Rattle.prelude.proofs.Most.{greatest_above, greatest_least, first_is, First, nowhere, there, greatest_same}
+use Rattle.table.specs.Complete.{size_field_for, basket_size, has_version, sharers, SizeFields, complete, highest_complete, version_if_complete, is_void, settled}
+use Rattle.table.specs.Table.{is_record, next_version}
 
 -- a number says as many as the basket that it is for
-pub said-for : (m : ℕ) → 0 < m → basketSize (sizeFieldFor m) ≡ m
-unfolding basketSize sizeFieldFor
-said-for m h = go (eqb m 1) refl
+pub said_for : (m : ℕ) → 0 < m → basket_size (size_field_for m) ≡ m
+unfolding basket_size size_field_for
+said_for m h = go (eqb m 1) refl
   where
     go : (b : Bool) → eqb m 1 ≡ b → cond (eqb (cond b 0 m) 0) 1 (cond b 0 m) ≡ m
     go true e = sym (eqb-true m 1 e)
-    go false e = pick-false (eqb m 0) 1 m (ne_eqb m 0 (λ z. omega arith))
+    go false e = pick_false (eqb m 0) 1 m (ne_eqb m 0 (λ z. omega arith))
 
 -- the slots of a version
 module _ (f : Table) where
-  pub has-version : (v t : ℕ) → isRecord (f t) ≡ true → highestWholeIn (f t) ≡ v → hasVersion f v t ≡ true
-  unfolding hasVersion
-  has-version v t c e = both (isRecord (f t)) _ c (eq-eqb (highestWholeIn (f t)) v e)
+  pub has-version : (v t : ℕ) → is_record (f t) ≡ true → highest_whole_in (f t) ≡ v → has_version f v t ≡ true
+  unfolding has_version
+  has-version v t c e = both (is_record (f t)) _ c (eq-eqb (highest_whole_in (f t)) v e)
 
-  pub version-record : (v t : ℕ) → hasVersion f v t ≡ true → isRecord (f t) ≡ true
-  unfolding hasVersion
-  version-record v t e = both_left (isRecord (f t)) _ e
+  pub version_record : (v t : ℕ) → has_version f v t ≡ true → is_record (f t) ≡ true
+  unfolding has_version
+  version_record v t e = both_left (is_record (f t)) _ e
 
-  pub version-top : (v t : ℕ) → hasVersion f v t ≡ true → highestWholeIn (f t) ≡ v
-  unfolding hasVersion
-  version-top v t e = eqb-true (highestWholeIn (f t)) v (both_right (isRecord (f t)) _ e)
+  pub version_top : (v t : ℕ) → has_version f v t ≡ true → highest_whole_in (f t) ≡ v
+  unfolding has_version
+  version_top v t e = eqb-true (highest_whole_in (f t)) v (both_right (is_record (f t)) _ e)
 
 -- a slot with the same content has the same version
-pub version-same : (f f' : Table) (v t : ℕ) → f' t ≡ f t → hasVersion f' v t ≡ hasVersion f v t
-unfolding hasVersion
-version-same f f' v t e = ap (λ (c : Content). isRecord c && eqb (highestWholeIn c) v) e
+pub version_same : (f f' : Table) (v t : ℕ) → f' t ≡ f t → has_version f' v t ≡ has_version f v t
+unfolding has_version
+version_same f f' v t e = ap (λ (c : Content). is_record c && eqb (highest_whole_in c) v) e
 
-pub sharers-same : (f f' : Table) (n v : ℕ) → ((t : ℕ) → Slot n t → hasVersion f' v t ≡ hasVersion f v t) → sharers f' n v ≡ sharers f n v
+pub sharers_same : (f f' : Table) (n v : ℕ) → ((t : ℕ) → Slot n t → has_version f' v t ≡ has_version f v t) → sharers f' n v ≡ sharers f n v
 unfolding sharers
-sharers-same f f' n v h = count_same (hasVersion f' v) (hasVersion f v) n h
+sharers_same f f' n v h = count_same (has_version f' v) (has_version f v) n h
 
 module _ (f : Table) (num : SizeFields) (n : ℕ) where
-  pub complete-enough : (s : ℕ) → complete f num n s ≡ true → basketSize (num s) ≤ sharers f n (highestWholeIn (f s))
+  pub complete_enough : (s : ℕ) → complete f num n s ≡ true → basket_size (num s) ≤ sharers f n (highest_whole_in (f s))
   unfolding complete
-  complete-enough s e = leb-true (basketSize (num s)) (sharers f n (highestWholeIn (f s))) (both_right (isRecord (f s)) _ e)
+  complete_enough s e = leb-true (basket_size (num s)) (sharers f n (highest_whole_in (f s))) (both_right (is_record (f s)) _ e)
 
-  pub complete-record : (s : ℕ) → complete f num n s ≡ true → isRecord (f s) ≡ true
+  pub complete_record : (s : ℕ) → complete f num n s ≡ true → is_record (f s) ≡ true
   unfolding complete
-  complete-record s e = both_left (isRecord (f s)) _ e
+  complete_record s e = both_left (is_record (f s)) _ e
 
-  pub complete-is : (s : ℕ) → isRecord (f s) ≡ true → basketSize (num s) ≤ sharers f n (highestWholeIn (f s)) → complete f num n s ≡ true
+  pub complete_is : (s : ℕ) → is_record (f s) ≡ true → basket_size (num s) ≤ sharers f n (highest_whole_in (f s)) → complete f num n s ≡ true
   unfolding complete
-  complete-is s c l = both (isRecord (f s)) _ c (le-leb (basketSize (num s)) (sharers f n (highestWholeIn (f s))) l)
+  complete_is s c l = both (is_record (f s)) _ c (le-leb (basket_size (num s)) (sharers f n (highest_whole_in (f s))) l)
 
   -- every complete version is at most the highest one
-  pub highest-complete-above : (s : ℕ) → Slot n s → complete f num n s ≡ true → highestWholeIn (f s) ≤ highestComplete f num n
-  unfolding highestComplete versionIfComplete
-  highest-complete-above s i e =
-      omega (arith, greatest-above (versionIfComplete f num n) n s i, pick_true (complete f num n s) (highestWholeIn (f s)) 0 e)
+  pub highest_complete_above : (s : ℕ) → Slot n s → complete f num n s ≡ true → highest_whole_in (f s) ≤ highest_complete f num n
+  unfolding highest_complete version_if_complete
+  highest_complete_above s i e =
+      omega (arith, greatest_above (version_if_complete f num n) n s i, pick_true (complete f num n s) (highest_whole_in (f s)) 0 e)
 
   -- which is no more than what bounds them
-  pub highest-complete-least : (m : ℕ) → ((s : ℕ) → Slot n s → complete f num n s ≡ true → highestWholeIn (f s) ≤ m) → highestComplete f num n ≤ m
-  unfolding highestComplete versionIfComplete
-  highest-complete-least m h = greatest-least (versionIfComplete f num n) n m (λ t i. go t i (complete f num n t) refl)
+  pub highest_complete_least : (m : ℕ) → ((s : ℕ) → Slot n s → complete f num n s ≡ true → highest_whole_in (f s) ≤ m) → highest_complete f num n ≤ m
+  unfolding highest_complete version_if_complete
+  highest_complete_least m h = greatest_least (version_if_complete f num n) n m (λ t i. go t i (complete f num n t) refl)
     where
-      go : (t : ℕ) → Slot n t → (b : Bool) → complete f num n t ≡ b → versionIfComplete f num n t ≤ m
-      go t i true e = omega (arith, pick_true (complete f num n t) (highestWholeIn (f t)) 0 e, h t i e)
-      go t i false e = omega (arith, pick-false (complete f num n t) (highestWholeIn (f t)) 0 e)
+      go : (t : ℕ) → Slot n t → (b : Bool) → complete f num n t ≡ b → version_if_complete f num n t ≤ m
+      go t i true e = omega (arith, pick_true (complete f num n t) (highest_whole_in (f t)) 0 e, h t i e)
+      go t i false e = omega (arith, pick_false (complete f num n t) (highest_whole_in (f t)) 0 e)
 
   -- and is 0 or the version of a complete slot
   pub data HighestComplete : Type 0 where
-    none-complete : highestComplete f num n ≡ 0 → HighestComplete
-    completed : (s : ℕ) → Slot n s → complete f num n s ≡ true → highestWholeIn (f s) ≡ highestComplete f num n → HighestComplete
+    none_complete : highest_complete f num n ≡ 0 → HighestComplete
+    completed : (s : ℕ) → Slot n s → complete f num n s ≡ true → highest_whole_in (f s) ≡ highest_complete f num n → HighestComplete
 
-  pub highest-complete-is : HighestComplete
-  unfolding highestComplete versionIfComplete
-  highest-complete-is = go (first-is (versionIfComplete f num n) n)
+  pub highest_complete_is : HighestComplete
+  unfolding highest_complete version_if_complete
+  highest_complete_is = go (first_is (version_if_complete f num n) n)
     where
-      go : First (versionIfComplete f num n) n (topmost (versionIfComplete f num n) n) → HighestComplete
-      go (nowhere e h) = none-complete (omega (arith, greatest-least (versionIfComplete f num n) n 0 (λ t i. omega (arith, h t i))))
-      go (there i p h b) = at (topmost (versionIfComplete f num n) n) i p h (complete f num n (topmost (versionIfComplete f num n) n)) refl
+      go : First (version_if_complete f num n) n (topmost (version_if_complete f num n) n) → HighestComplete
+      go (nowhere e h) = none_complete (omega (arith, greatest_least (version_if_complete f num n) n 0 (λ t i. omega (arith, h t i))))
+      go (there i p h b) = at (topmost (version_if_complete f num n) n) i p h (complete f num n (topmost (version_if_complete f num n) n)) refl
         where
-          at : (s : ℕ) → Slot n s → 0 < versionIfComplete f num n s → ((t : ℕ) → Slot n t → versionIfComplete f num n t ≤ versionIfComplete f num n s)
+          at : (s : ℕ) → Slot n s → 0 < version_if_complete f num n s → ((t : ℕ) → Slot n t → version_if_complete f num n t ≤ version_if_complete f num n s)
               → (b : Bool) → complete f num n s ≡ b → HighestComplete
           at s i p h true e =
               completed s i e (omega (
                 arith,
-                pick_true (complete f num n s) (highestWholeIn (f s)) 0 e,
-                greatest-above (versionIfComplete f num n) n s i,
-                greatest-least (versionIfComplete f num n) n (versionIfComplete f num n s) h,
+                pick_true (complete f num n s) (highest_whole_in (f s)) 0 e,
+                greatest_above (version_if_complete f num n) n s i,
+                greatest_least (version_if_complete f num n) n (version_if_complete f num n s) h,
               ))
-          at s i p h false e = absurd (omega (arith, pick-false (complete f num n s) (highestWholeIn (f s)) 0 e))
+          at s i p h false e = absurd (omega (arith, pick_false (complete f num n s) (highest_whole_in (f s)) 0 e))
 
   -- the void slots
-  pub void-above : (s : ℕ) → isVoid f num n s ≡ true → highestComplete f num n < highestWholeIn (f s)
-  unfolding isVoid
-  void-above s e = ltb-true (highestComplete f num n) (highestWholeIn (f s)) (both_right (isRecord (f s)) _ e)
+  pub void_above : (s : ℕ) → is_void f num n s ≡ true → highest_complete f num n < highest_whole_in (f s)
+  unfolding is_void
+  void_above s e = ltb-true (highest_complete f num n) (highest_whole_in (f s)) (both_right (is_record (f s)) _ e)
 
-  pub void-record : (s : ℕ) → isVoid f num n s ≡ true → isRecord (f s) ≡ true
-  unfolding isVoid
-  void-record s e = both_left (isRecord (f s)) _ e
+  pub void_record : (s : ℕ) → is_void f num n s ≡ true → is_record (f s) ≡ true
+  unfolding is_void
+  void_record s e = both_left (is_record (f s)) _ e
 
-  pub void-is : (s : ℕ) → isRecord (f s) ≡ true → highestComplete f num n < highestWholeIn (f s) → isVoid f num n s ≡ true
-  unfolding isVoid
-  void-is s c l = both (isRecord (f s)) _ c (lt-ltb (highestComplete f num n) (highestWholeIn (f s)) l)
+  pub void_is : (s : ℕ) → is_record (f s) ≡ true → highest_complete f num n < highest_whole_in (f s) → is_void f num n s ≡ true
+  unfolding is_void
+  void_is s c l = both (is_record (f s)) _ c (lt-ltb (highest_complete f num n) (highest_whole_in (f s)) l)
 
-  pub not-void : (s : ℕ) → (isRecord (f s) ≡ true → highestWholeIn (f s) ≤ highestComplete f num n) → isVoid f num n s ≡ false
-  not-void s h = is_false (isVoid f num n s) (λ e. omega (arith, void-above s e, h (void-record s e)))
+  pub not_void : (s : ℕ) → (is_record (f s) ≡ true → highest_whole_in (f s) ≤ highest_complete f num n) → is_void f num n s ≡ false
+  not_void s h = is_false (is_void f num n s) (λ e. omega (arith, void_above s e, h (void_record s e)))
 
-  pub not-void-below : (s : ℕ) → isVoid f num n s ≡ false → isRecord (f s) ≡ true → highestWholeIn (f s) ≤ highestComplete f num n
-  not-void-below s e c = go (ltb (highestComplete f num n) (highestWholeIn (f s))) refl
+  pub not_void_below : (s : ℕ) → is_void f num n s ≡ false → is_record (f s) ≡ true → highest_whole_in (f s) ≤ highest_complete f num n
+  not_void_below s e c = go (ltb (highest_complete f num n) (highest_whole_in (f s))) refl
     where
-      go : (b : Bool) → ltb (highestComplete f num n) (highestWholeIn (f s)) ≡ b → highestWholeIn (f s) ≤ highestComplete f num n
-      go true l = absurd (true-false (void-is s c (ltb-true (highestComplete f num n) (highestWholeIn (f s)) l)) e)
-      go false l = ltb-false (highestComplete f num n) (highestWholeIn (f s)) l
+      go : (b : Bool) → ltb (highest_complete f num n) (highest_whole_in (f s)) ≡ b → highest_whole_in (f s) ≤ highest_complete f num n
+      go true l = absurd (true-false (void_is s c (ltb-true (highest_complete f num n) (highest_whole_in (f s)) l)) e)
+      go false l = ltb-false (highest_complete f num n) (highest_whole_in (f s)) l
 
   -- the settled table
-  pub settled-void : (s : ℕ) → isVoid f num n s ≡ true → settled f num n s ≡ broken (highestWholeIn (f s))
+  pub settled_void : (s : ℕ) → is_void f num n s ≡ true → settled f num n s ≡ broken (highest_whole_in (f s))
   unfolding settled
-  settled-void s e = pick_true (isVoid f num n s) _ _ e
+  settled_void s e = pick_true (is_void f num n s) _ _ e
 
-  pub settled_same : (s : ℕ) → isVoid f num n s ≡ false → settled f num n s ≡ f s
+  pub settled_same : (s : ℕ) → is_void f num n s ≡ false → settled f num n s ≡ f s
   unfolding settled
-  settled_same s e = pick-false (isVoid f num n s) _ _ e
+  settled_same s e = pick_false (is_void f num n s) _ _ e
 
   -- "lines of broken slots included", and those of void ones
-  pub settled-top : (s : ℕ) → highestWholeIn (settled f num n s) ≡ highestWholeIn (f s)
-  unfolding highestWholeIn
-  settled-top s = go (isVoid f num n s) refl
+  pub settled_top : (s : ℕ) → highest_whole_in (settled f num n s) ≡ highest_whole_in (f s)
+  unfolding highest_whole_in
+  settled_top s = go (is_void f num n s) refl
     where
-      go : (b : Bool) → isVoid f num n s ≡ b → highestWholeIn (settled f num n s) ≡ highestWholeIn (f s)
-      go true e = ap highestWholeIn (settled-void s e)
-      go false e = ap highestWholeIn (settled_same s e)
+      go : (b : Bool) → is_void f num n s ≡ b → highest_whole_in (settled f num n s) ≡ highest_whole_in (f s)
+      go true e = ap highest_whole_in (settled_void s e)
+      go false e = ap highest_whole_in (settled_same s e)
 
 -- THE NEXT VERSION is that of the settled table: void lines count
-pub settled-next : (f : Table) (num : SizeFields) (n : ℕ) → nextVersion (settled f num n) n ≡ nextVersion f n
-unfolding nextVersion
-settled-next f num n = ap suc (greatest-same (λ s. highestWholeIn (settled f num n s)) (λ s. highestWholeIn (f s)) n (λ s i. settled-top f num n s))
+pub settled_next : (f : Table) (num : SizeFields) (n : ℕ) → next_version (settled f num n) n ≡ next_version f n
+unfolding next_version
+settled_next f num n = ap suc (greatest_same (λ s. highest_whole_in (settled f num n s)) (λ s. highest_whole_in (f s)) n (λ s i. settled_top f num n s))

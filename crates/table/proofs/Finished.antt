@@ -7,44 +7,44 @@ use Prim.Native.Nat.{ℕ, suc, ◌≤◌, ◌<◌}
 use native.Mathlib.Omega.{arith}
 use lib.ListN.{length}
 use borrow.Author.Tests.{eq-eqb}
-use Rattle.layout.specs.Content.{Table, highestWholeIn}
+use Rattle.layout.specs.Content.{Table, highest_whole_in}
 use Rattle.prelude.specs.Members.{In, Slot}
 use Rattle.prelude.proofs.defs.Among.{member}
-use Rattle.prelude.proofs.Among.{in-member, member-in, count-member, not-member, out-member}
+use Rattle.prelude.proofs.Among.{in_member, member_in, count-member, not_member, out_member}
 use Rattle.prelude.proofs.Choice.{true-false, same_test, pick_true}
 use Rattle.prelude.proofs.Count.{count_same}
-use Rattle.prelude.proofs.Lists.{some-element}
-use Rattle.prelude.proofs.Most.{greatest-above, greatest-least}
-use Rattle.table.specs.Complete.{SizeFields, sizeFieldFor, hasVersion, sharers, complete, basketSize, highestComplete, NoneVoid, settled}
-use Rattle.table.specs.Table.{isRecord, keyIn, rankForKey, decider, mapOf, valueIn, live, nextVersion}
-use Rattle.table.specs.Takeable.{validVersion, highestValid, IsNewest}
+use Rattle.prelude.proofs.Lists.{some_element}
+use Rattle.prelude.proofs.Most.{greatest_above, greatest_least}
+use Rattle.table.specs.Complete.{SizeFields, size_field_for, has_version, sharers, complete, basket_size, highest_complete, NoneVoid, settled}
+use Rattle.table.specs.Table.{is_record, key_in, rank_for_key, decider, map_of, value_in, live, next_version}
+use Rattle.table.specs.Takeable.{valid_version, highest_valid, IsNewest}
 use Rattle.table.proofs.defs.Basket.{Basket, changes}
 use Rattle.table.proofs.defs.Struck.{Struck, Finished, Unfinished, SlotAfter, kept, unfinished, lost, done}
 use Rattle.table.proofs.defs.Write.{Outside, Free}
-use Rattle.table.specs.Class.{isPut}
-use Rattle.table.proofs.Changes.{key-sought, Keyed, keyed, changes-hit, unkeyed, changes-miss}
-use Rattle.table.proofs.Complete.{complete-is, said-for, highest-complete-above, highest-complete-least, complete-record, not-void, settled_same}
-use Rattle.table.proofs.Map.{newest, set_new, map-kept, live-put, live-remove, other-idle, live-kept}
-use Rattle.table.proofs.OneSlot.{says, Says, puts, removes, weight-put}
-use Rattle.table.proofs.Alike.{alike-map}
-use Rattle.table.proofs.Struck.{new_is, new-version, version-most, not_taken, taken_free}
-use Rattle.table.proofs.Takeable.{highest-valid-above, highest-valid-least}
+use Rattle.table.specs.Class.{is_put}
+use Rattle.table.proofs.Changes.{key_sought, Keyed, keyed, changes_hit, unkeyed, changes_miss}
+use Rattle.table.proofs.Complete.{complete_is, said_for, highest_complete_above, highest_complete_least, complete_record, not_void, settled_same}
+use Rattle.table.proofs.Map.{newest, set_new, map_kept, live_put, live_remove, other_idle, live_kept}
+use Rattle.table.proofs.OneSlot.{says, Says, puts, removes, weight_put}
+use Rattle.table.proofs.Alike.{alike_map}
+use Rattle.table.proofs.Struck.{new_is, new_version, version_most, not_taken, taken_free}
+use Rattle.table.proofs.Takeable.{highest_valid_above, highest_valid_least}
 
 module _ {f f' : Table} {num num' : SizeFields} {n w : ℕ} {taken : List ℕ} {new : Table}
     (b : Basket f num n w taken new) (st : Struck f f' num num' n taken new) where
   -- the basket is finished or it is not
-  pub finished-or : Finished f' num' taken new ⊎ Unfinished f' taken new
-  unfolding isRecord
-  finished-or = all taken (λ t i. i)
+  pub finished_or : Finished f' num' taken new ⊎ Unfinished f' taken new
+  unfolding is_record
+  finished_or = all taken (λ t i. i)
     where
       All : List ℕ → Type 0
-      All l = ((t : ℕ) → In t l → (f' t ≡ new t) × (num' t ≡ sizeFieldFor (length taken))) ⊎ Unfinished f' taken new
+      All l = ((t : ℕ) → In t l → (f' t ≡ new t) × (num' t ≡ size_field_for (length taken))) ⊎ Unfinished f' taken new
 
-      at : (x : ℕ) (l : List ℕ) → In x taken → SlotAfter (f x) (new x) (f' x) (num x) (sizeFieldFor (length taken)) (num' x) → All l → All (x ∷ l)
+      at : (x : ℕ) (l : List ℕ) → In x taken → SlotAfter (f x) (new x) (f' x) (num x) (size_field_for (length taken)) (num' x) → All l → All (x ∷ l)
       at x l j q (inr u) = inr u
       at x l j (kept e d) (inl h) =
-          inr (unfinished x j (λ p. omega (arith, ap highestWholeIn (sym e ∙ p), b.above x (b.slot x j), (b.records x j).tops)))
-      at x l j (lost y e) (inl h) = inr (unfinished x j (λ p. true-false (b.records x j).counted (ap isRecord (sym p ∙ e))))
+          inr (unfinished x j (λ p. omega (arith, ap highest_whole_in (sym e ∙ p), b.above x (b.slot x j), (b.records x j).tops)))
+      at x l j (lost y e) (inl h) = inr (unfinished x j (λ p. true-false (b.records x j).counted (ap is_record (sym p ∙ e))))
       at x l j (done e d) (inl h) = inl (λ t i. ⊎_elim (λ q. (rw q e, rw q d)) (h t) i)
 
       all : (l : List ℕ) → ((t : ℕ) → In t l → In t taken) → All l
@@ -53,131 +53,131 @@ module _ {f f' : Table} {num num' : SizeFields} {n w : ℕ} {taken : List ℕ} {
 
 module _ {f f' : Table} {num num' : SizeFields} {n w : ℕ} {taken : List ℕ} {new : Table}
     (b : Basket f num n w taken new) (st : Struck f f' num num' n taken new) (z : Finished f' num' taken new) where
-  finished-version : (t : ℕ) → Slot n t → hasVersion f' w t ≡ member taken t
-  finished-version t i =
-      same_test _ _ (λ e. in-member taken t (new_is b st t i e).0)
-      (λ e. let j = member-in taken t e in new-version b st t j (z t j).0)
+  finished_version : (t : ℕ) → Slot n t → has_version f' w t ≡ member taken t
+  finished_version t i =
+      same_test _ _ (λ e. in_member taken t (new_is b st t i e).0)
+      (λ e. let j = member_in taken t e in new_version b st t j (z t j).0)
 
-  finished-sharers : sharers f' n w ≡ length taken
+  finished_sharers : sharers f' n w ≡ length taken
   unfolding sharers
-  finished-sharers = count_same (hasVersion f' w) (member taken) n finished-version ∙ count-member taken n b.once b.slot
+  finished_sharers = count_same (has_version f' w) (member taken) n finished_version ∙ count-member taken n b.once b.slot
 
-  pub new-top : (t : ℕ) → In t taken → highestWholeIn (f' t) ≡ w
-  new-top t j = ap highestWholeIn (z t j).0 ∙ (b.records t j).tops
+  pub new_top : (t : ℕ) → In t taken → highest_whole_in (f' t) ≡ w
+  new_top t j = ap highest_whole_in (z t j).0 ∙ (b.records t j).tops
 
   -- THE BASKET IS COMPLETE
-  pub finished-complete : (t : ℕ) → In t taken → complete f' num' n t ≡ true
-  finished-complete t j =
-      complete-is f' num' n t (ap isRecord (z t j).0 ∙ (b.records t j).counted)
-      (omega (arith, ap (sharers f' n) (new-top t j), finished-sharers, ap basketSize (z t j).1, said-for (length taken) b.some))
+  pub finished_complete : (t : ℕ) → In t taken → complete f' num' n t ≡ true
+  finished_complete t j =
+      complete_is f' num' n t (ap is_record (z t j).0 ∙ (b.records t j).counted)
+      (omega (arith, ap (sharers f' n) (new_top t j), finished_sharers, ap basket_size (z t j).1, said_for (length taken) b.some))
 
-  pub finished-highest-complete : highestComplete f' num' n ≡ w
-  finished-highest-complete =
-      let s = some-element taken b.some in
+  pub finished_highest_complete : highest_complete f' num' n ≡ w
+  finished_highest_complete =
+      let s = some_element taken b.some in
       omega (
         arith,
-        highest-complete-above f' num' n s.0 (b.slot s.0 s.1) (finished-complete s.0 s.1),
-        new-top s.0 s.1,
-        highest-complete-least f' num' n w (λ t i c. version-most b st t i (complete-record f' num' n t c)),
+        highest_complete_above f' num' n s.0 (b.slot s.0 s.1) (finished_complete s.0 s.1),
+        new_top s.0 s.1,
+        highest_complete_least f' num' n w (λ t i c. version_most b st t i (complete_record f' num' n t c)),
       )
 
   -- NO SLOT IS VOID
-  pub finished-none-void : NoneVoid f' num' n
-  finished-none-void t i = not-void f' num' n t (λ c. omega (arith, finished-highest-complete, version-most b st t i c))
+  pub finished_none_void : NoneVoid f' num' n
+  finished_none_void t i = not_void f' num' n t (λ c. omega (arith, finished_highest_complete, version_most b st t i c))
 
-  pub finished-settled : (t : ℕ) → Slot n t → settled f' num' n t ≡ f' t
-  finished-settled t i = settled_same f' num' n t (finished-none-void t i)
+  pub finished_settled : (t : ℕ) → Slot n t → settled f' num' n t ≡ f' t
+  finished_settled t i = settled_same f' num' n t (finished_none_void t i)
 
-  all-outside : Outside f f' n (member taken)
-  all-outside t i e = (not_taken b st t i (not-member taken t e)).0
+  all_outside : Outside f f' n (member taken)
+  all_outside t i e = (not_taken b st t i (not_member taken t e)).0
 
-  all-free : Free f n (member taken)
-  all-free = taken_free b st (member taken) (λ t e. e)
+  all_free : Free f n (member taken)
+  all_free = taken_free b st (member taken) (λ t e. e)
 
   -- a record of the basket says nothing of another key
-  new_none : (k t : ℕ) → In t taken → (keyIn (new t) ≡ k → ⊥) → rankForKey k (f' t) ≡ 0
-  new_none k t j h = ap (rankForKey k) (z t j).0 ∙ (b.records t j).other k h
+  new_none : (k t : ℕ) → In t taken → (key_in (new t) ≡ k → ⊥) → rank_for_key k (f' t) ≡ 0
+  new_none k t j h = ap (rank_for_key k) (z t j).0 ∙ (b.records t j).other k h
 
-  new-own : (k s : ℕ) → In s taken → keyIn (new s) ≡ k → rankForKey k (f' s) ≡ suc w
-  new-own k s j e = ap (rankForKey k) (z s j).0 ∙ ap (λ (x : ℕ). rankForKey x (new s)) (sym e) ∙ (b.records s j).own
+  new_own : (k s : ℕ) → In s taken → key_in (new s) ≡ k → rank_for_key k (f' s) ≡ suc w
+  new_own k s j e = ap (rank_for_key k) (z s j).0 ∙ ap (λ (x : ℕ). rank_for_key x (new s)) (sym e) ∙ (b.records s j).own
 
-  others-none : (k s : ℕ) → In s taken → keyIn (new s) ≡ k → (t : ℕ) → Slot n t → member taken t ≡ true → (t ≡ s → ⊥) → rankForKey k (f' t) ≡ 0
-  others-none k s j e t i c ne = let a = member-in taken t c in new_none k t a (λ q. ne (b.keys t s a j (q ∙ sym e)))
+  others_none : (k s : ℕ) → In s taken → key_in (new s) ≡ k → (t : ℕ) → Slot n t → member taken t ≡ true → (t ≡ s → ⊥) → rank_for_key k (f' t) ≡ 0
+  others_none k s j e t i c ne = let a = member_in taken t c in new_none k t a (λ q. ne (b.keys t s a j (q ∙ sym e)))
 
   -- each new record decides its key
-  pub finished-decider : (k s : ℕ) → In s taken → keyIn (new s) ≡ k → decider f' n k ≡ s
-  finished-decider k s j e =
-      newest f f' n (member taken) all-outside w b.above k s (b.slot s j) (in-member taken s j) (new-own k s j e) (others-none k s j e)
+  pub finished_decider : (k s : ℕ) → In s taken → key_in (new s) ≡ k → decider f' n k ≡ s
+  finished_decider k s j e =
+      newest f f' n (member taken) all_outside w b.above k s (b.slot s j) (in_member taken s j) (new_own k s j e) (others_none k s j e)
 
-  table-map : (k : ℕ) → mapOf f' n k ≡ changes taken new (mapOf f n) k
-  table-map k = go (key-sought taken new k)
+  table_map : (k : ℕ) → map_of f' n k ≡ changes taken new (map_of f n) k
+  table_map k = go (key_sought taken new k)
     where
-      go : Keyed taken new k → mapOf f' n k ≡ changes taken new (mapOf f n) k
+      go : Keyed taken new k → map_of f' n k ≡ changes taken new (map_of f n) k
       go (keyed s j e) =
-          set_new f f' n (member taken) all-outside w b.above k s (b.slot s j) (in-member taken s j) (new-own k s j e) (others-none k s j e)
-          ∙ ap valueIn (z s j).0 ∙ sym (changes-hit taken new (mapOf f n) k s j e (λ t i q. b.keys t s i j (q ∙ sym e)))
+          set_new f f' n (member taken) all_outside w b.above k s (b.slot s j) (in_member taken s j) (new_own k s j e) (others_none k s j e)
+          ∙ ap value_in (z s j).0 ∙ sym (changes_hit taken new (map_of f n) k s j e (λ t i q. b.keys t s i j (q ∙ sym e)))
       go (unkeyed h) =
-          map-kept f f' n (member taken) all-free all-outside k (λ t i c. new_none k t (member-in taken t c) (h t (member-in taken t c)))
-          ∙ sym (changes-miss taken new (mapOf f n) k h)
+          map_kept f f' n (member taken) all_free all_outside k (λ t i c. new_none k t (member_in taken t c) (h t (member_in taken t c)))
+          ∙ sym (changes_miss taken new (map_of f n) k h)
 
   -- THE MAP HAS ALL THE CHANGES
-  pub finished-map : (k : ℕ) → mapOf (settled f' num' n) n k ≡ changes taken new (mapOf f n) k
-  finished-map k = alike-map f' (settled f' num' n) n finished-settled k ∙ table-map k
+  pub finished_map : (k : ℕ) → map_of (settled f' num' n) n k ≡ changes taken new (map_of f n) k
+  finished_map k = alike_map f' (settled f' num' n) n finished_settled k ∙ table_map k
 
   -- which slots are live: those of the basket's puts,
-  pub finished-own : (s : ℕ) → In s taken → live f' n s ≡ isPut (new s)
-  unfolding isPut
-  finished-own s j = go (says (keyIn (new s)) (new s) (omega (arith, (b.records s j).own)))
+  pub finished_own : (s : ℕ) → In s taken → live f' n s ≡ is_put (new s)
+  unfolding is_put
+  finished_own s j = go (says (key_in (new s)) (new s) (omega (arith, (b.records s j).own)))
     where
-      go : Says (keyIn (new s)) (new s) → live f' n s ≡ isPut (new s)
+      go : Says (key_in (new s)) (new s) → live f' n s ≡ is_put (new s)
       go (puts u v e) =
-          live-put f' n s u (keyIn (new s)) v ((z s j).0 ∙ e) ∙ eq-eqb (decider f' n (keyIn (new s))) s (finished-decider (keyIn (new s)) s j refl)
-          ∙ sym (ap isPut e)
-      go (removes u e) = live-remove f' n s u (keyIn (new s)) ((z s j).0 ∙ e) ∙ sym (ap isPut e)
+          live_put f' n s u (key_in (new s)) v ((z s j).0 ∙ e) ∙ eq-eqb (decider f' n (key_in (new s))) s (finished_decider (key_in (new s)) s j refl)
+          ∙ sym (ap is_put e)
+      go (removes u e) = live_remove f' n s u (key_in (new s)) ((z s j).0 ∙ e) ∙ sym (ap is_put e)
 
   -- no other record of one of its keys,
-  pub finished-over : (t s : ℕ) → Slot n t → (In t taken → ⊥) → In s taken → 0 < rankForKey (keyIn (new s)) (f t) → live f' n t ≡ false
-  finished-over t s i h j p =
-      other-idle f' n (keyIn (new s)) s t (finished-decider (keyIn (new s)) s j refl) (λ e. h (rw e j))
-      (omega (arith, ap (rankForKey (keyIn (new s))) (not_taken b st t i h).0))
+  pub finished_over : (t s : ℕ) → Slot n t → (In t taken → ⊥) → In s taken → 0 < rank_for_key (key_in (new s)) (f t) → live f' n t ≡ false
+  finished_over t s i h j p =
+      other_idle f' n (key_in (new s)) s t (finished_decider (key_in (new s)) s j refl) (λ e. h (rw e j))
+      (omega (arith, ap (rank_for_key (key_in (new s))) (not_taken b st t i h).0))
 
   -- and the slots of other keys as before
-  pub finished-kept : (t : ℕ) → Slot n t → (In t taken → ⊥) → ((s : ℕ) → In s taken → rankForKey (keyIn (new s)) (f t) ≡ 0) → live f' n t ≡ live f n t
-  finished-kept t i h other =
-      live-kept f f' n (member taken) all-free all-outside t i (out-member taken t h)
-      (λ u k v e s j c. new_none k s (member-in taken s c)
-      (λ q. omega (arith, other s (member-in taken s c), ap (λ (x : ℕ). rankForKey x (f t)) q, ap (rankForKey k) e, weight-put u k v)))
+  pub finished_kept : (t : ℕ) → Slot n t → (In t taken → ⊥) → ((s : ℕ) → In s taken → rank_for_key (key_in (new s)) (f t) ≡ 0) → live f' n t ≡ live f n t
+  finished_kept t i h other =
+      live_kept f f' n (member taken) all_free all_outside t i (out_member taken t h)
+      (λ u k v e s j c. new_none k s (member_in taken s c)
+      (λ q. omega (arith, other s (member_in taken s c), ap (λ (x : ℕ). rank_for_key x (f t)) q, ap (rank_for_key k) e, weight_put u k v)))
 
-  pub finished-next : nextVersion f' n ≡ suc w
-  unfolding nextVersion
-  finished-next =
-      let s = some-element taken b.some in
+  pub finished_next : next_version f' n ≡ suc w
+  unfolding next_version
+  finished_next =
+      let s = some_element taken b.some in
       omega (
         arith,
-        greatest-above (λ t. highestWholeIn (f' t)) n s.0 (b.slot s.0 s.1),
-        new-top s.0 s.1,
-        greatest-least (λ t. highestWholeIn (f' t)) n w (λ t i. most t i (member taken t) refl),
+        greatest_above (λ t. highest_whole_in (f' t)) n s.0 (b.slot s.0 s.1),
+        new_top s.0 s.1,
+        greatest_least (λ t. highest_whole_in (f' t)) n w (λ t i. most t i (member taken t) refl),
       )
     where
-      most : (t : ℕ) → Slot n t → (x : Bool) → member taken t ≡ x → highestWholeIn (f' t) ≤ w
-      most t i true e = omega (arith, new-top t (member-in taken t e))
-      most t i false e = omega (arith, ap highestWholeIn (all-outside t i e), b.above t i)
+      most : (t : ℕ) → Slot n t → (x : Bool) → member taken t ≡ x → highest_whole_in (f' t) ≤ w
+      most t i true e = omega (arith, new_top t (member_in taken t e))
+      most t i false e = omega (arith, ap highest_whole_in (all_outside t i e), b.above t i)
 
   -- the highest valid version is the basket's
-  pub finished-highest-valid : highestValid f' n ≡ w
-  finished-highest-valid =
-      let s = some-element taken b.some in
+  pub finished_highest_valid : highest_valid f' n ≡ w
+  finished_highest_valid =
+      let s = some_element taken b.some in
       omega (
         arith,
-        highest-valid-above f' n s.0 (b.slot s.0 s.1) (ap isRecord (z s.0 s.1).0 ∙ (b.records s.0 s.1).counted),
-        new-top s.0 s.1,
-        highest-valid-least f' n w (version-most b st),
+        highest_valid_above f' n s.0 (b.slot s.0 s.1) (ap is_record (z s.0 s.1).0 ∙ (b.records s.0 s.1).counted),
+        new_top s.0 s.1,
+        highest_valid_least f' n w (version_most b st),
       )
 
   -- and so is that of each of its slots
-  pub finished-newest : (t : ℕ) → In t taken → IsNewest f' n t
-  unfolding validVersion
-  finished-newest t j some = (
+  pub finished_newest : (t : ℕ) → In t taken → IsNewest f' n t
+  unfolding valid_version
+  finished_newest t j some = (
     b.slot t j,
-    pick_true (isRecord (f' t)) (highestWholeIn (f' t)) 0 (ap isRecord (z t j).0 ∙ (b.records t j).counted) ∙ new-top t j ∙ sym finished-highest-valid,
+    pick_true (is_record (f' t)) (highest_whole_in (f' t)) 0 (ap is_record (z t j).0 ∙ (b.records t j).counted) ∙ new_top t j ∙ sym finished_highest_valid,
   )

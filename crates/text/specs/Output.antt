@@ -6,7 +6,7 @@ use Rattle.std.specs.Prelude.{cond, List, [], ◌∷◌, ◌++◌, ℕ, zero, su
 pub data Printed : Type 0 where
   ok : (numbers : List ℕ) → Printed
   found : (word : ℕ) → Printed
-  notHeld : Printed
+  not_held : Printed
   cut : (a b : ℕ) → Printed
   no : (number : ℕ) → Printed
   counted : (earlier later : ℕ) → Printed
@@ -16,32 +16,32 @@ pub data Printed : Type 0 where
 
 -- the decimal digits of n, at most `places`, and after them the bytes `rest`: of a number below 10, its one digit; of
 -- another, the digits of its tenth and its last one
-unfoldable pub digitsOnto : (places n : ℕ) → (rest : List ℕ) → List ℕ
-digitsOnto zero n rest = rest
-digitsOnto (suc places) n rest = cond (ltb n 10) ((48 + n) ∷ rest) (digitsOnto places (n / 10) ((48 + n % 10) ∷ rest))
+unfoldable pub digits_onto : (places n : ℕ) → (rest : List ℕ) → List ℕ
+digits_onto zero n rest = rest
+digits_onto (suc places) n rest = cond (ltb n 10) ((48 + n) ∷ rest) (digits_onto places (n / 10) ((48 + n % 10) ∷ rest))
 
 -- the decimal digits of n; a number below 2^64 has at most 20
 unfoldable pub decimal : (n : ℕ) → List ℕ
-decimal n = digitsOnto 20 n []
+decimal n = digits_onto 20 n []
 
 -- each number after a space, and then the end of the line
-unfoldable pub numbersText : List ℕ → List ℕ
-numbersText [] = 10 ∷ []
-numbersText (n ∷ numbers) = (32 ∷ decimal n) ++ numbersText numbers
+unfoldable pub numbers_text : List ℕ → List ℕ
+numbers_text [] = 10 ∷ []
+numbers_text (n ∷ numbers) = (32 ∷ decimal n) ++ numbers_text numbers
 
 -- a line of numbers alone, with one space between
-unfoldable pub lineText : List ℕ → List ℕ
-lineText [] = 10 ∷ []
-lineText (n ∷ numbers) = decimal n ++ numbersText numbers
+unfoldable pub line_text : List ℕ → List ℕ
+line_text [] = 10 ∷ []
+line_text (n ∷ numbers) = decimal n ++ numbers_text numbers
 
 -- the word in ASCII and the numbers after it; two counts stand alone
 unfoldable pub text : Printed → List ℕ
-text (ok numbers) = (111 ∷ 107 ∷ []) ++ numbersText numbers
-text (found word) = (102 ∷ 111 ∷ 117 ∷ 110 ∷ 100 ∷ []) ++ numbersText (word ∷ [])
-text notHeld = (97 ∷ 98 ∷ 115 ∷ 101 ∷ 110 ∷ 116 ∷ []) ++ numbersText []
-text (cut a b) = (99 ∷ 117 ∷ 116 ∷ []) ++ numbersText (a ∷ b ∷ [])
-text (no number) = (110 ∷ 111 ∷ []) ++ numbersText (number ∷ [])
-text (counted earlier later) = lineText (earlier ∷ later ∷ [])
+text (ok numbers) = (111 ∷ 107 ∷ []) ++ numbers_text numbers
+text (found word) = (102 ∷ 111 ∷ 117 ∷ 110 ∷ 100 ∷ []) ++ numbers_text (word ∷ [])
+text not_held = (97 ∷ 98 ∷ 115 ∷ 101 ∷ 110 ∷ 116 ∷ []) ++ numbers_text []
+text (cut a b) = (99 ∷ 117 ∷ 116 ∷ []) ++ numbers_text (a ∷ b ∷ [])
+text (no number) = (110 ∷ 111 ∷ []) ++ numbers_text (number ∷ [])
+text (counted earlier later) = line_text (earlier ∷ later ∷ [])
 text nothing = []
 
 -- ---- in the lent output
@@ -57,10 +57,10 @@ pub record Rendered : Type 0 where
   pub output : List ℕ
 
 -- what a call left that returned this end
-abbrev pub renderEnd : (end : ℕ) → (output : List ℕ) → Rendered
-renderEnd end output = record { end = end; output = output }
+abbrev pub render_end : (end : ℕ) → (output : List ℕ) → Rendered
+render_end end output = record { end = end; output = output }
 
 -- the line from position at on; nothing where fewer than 64 bytes are left there
-unfoldable pub renderResult : Printed → (out : List ℕ) → (at : ℕ) → Rendered
-renderResult p out at =
-    cond (ltb (length out) (at + 64)) (renderEnd at out) (renderEnd (at + length (text p)) (written out at (text p)))
+unfoldable pub render_result : Printed → (out : List ℕ) → (at : ℕ) → Rendered
+render_result p out at =
+    cond (ltb (length out) (at + 64)) (render_end at out) (render_end (at + length (text p)) (written out at (text p)))

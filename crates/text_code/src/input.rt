@@ -1,7 +1,7 @@
 // A line of input is read byte by byte, so that it may have any length.
 ghost use Rattle.std.specs.Prelude.{◌≡◌, ◌<◌};
-ghost use Rattle.text.specs.Forms.{withOne, withTwo};
-ghost use Rattle.text.specs.Parsing.{addByte, addDigit, nextNumber, afterSpace, afterOther, fed, endOne, endTwo, lineRead, withDigit as appendedTo};
+ghost use Rattle.text.specs.Forms.{with_one, with_two};
+ghost use Rattle.text.specs.Parsing.{add_byte, add_digit, next_number, after_space, after_other, fed, end_one, end_two, line_read, with_digit as appendedTo};
 
 use text::{Digits, Line, Parse};
 
@@ -19,7 +19,7 @@ fn append_digit(n: u64, digit: u64) -> Digits
 // One more digit of a number.
 fn add_digit(digits: Digits, digit: u64) -> Digits
     requires { digit < 10 }
-    ensures { result ≡ addDigit digits digit }
+    ensures { result ≡ add_digit digits digit }
 {
     match digits {
         Digits::NoDigit => Digits::Value(digit),
@@ -30,7 +30,7 @@ fn add_digit(digits: Digits, digit: u64) -> Digits
 
 // One more byte of a number.
 fn add_number_byte(digits: Digits, byte: u8) -> Digits
-    ensures { result ≡ addByte digits byte }
+    ensures { result ≡ add_byte digits byte }
 {
     if byte < 48 {
         return Digits::NotNumber;
@@ -43,7 +43,7 @@ fn add_number_byte(digits: Digits, byte: u8) -> Digits
 
 // The space after the first number.
 fn next_number(letter: u8, digits: Digits) -> Parse
-    ensures { result ≡ nextNumber letter digits }
+    ensures { result ≡ next_number letter digits }
 {
     match digits {
         Digits::NoDigit => Parse::NotLine,
@@ -58,7 +58,7 @@ fn next_number(letter: u8, digits: Digits) -> Parse
 
 // A space comes next.
 fn after_space(parse: Parse) -> Parse
-    ensures { result ≡ afterSpace parse }
+    ensures { result ≡ after_space parse }
 {
     match parse {
         Parse::Start => Parse::NotLine,
@@ -78,7 +78,7 @@ fn after_space(parse: Parse) -> Parse
 
 // A byte comes next that is no space.
 fn after_other(parse: Parse, byte: u8) -> Parse
-    ensures { result ≡ afterOther parse byte }
+    ensures { result ≡ after_other parse byte }
 {
     match parse {
         Parse::Start => Parse::Letter(byte),
@@ -112,7 +112,7 @@ pub fn feed(parse: Parse, byte: u8) -> Parse
 
 // The line of a letter and one number.
 fn with_one(letter: u8, n: u64) -> Line
-    ensures { result ≡ withOne letter n }
+    ensures { result ≡ with_one letter n }
 {
     if letter == 110 {
         return Line::New(n);
@@ -128,7 +128,7 @@ fn with_one(letter: u8, n: u64) -> Line
 
 // The line of a letter and two numbers.
 fn with_two(letter: u8, first: u64, second: u64) -> Line
-    ensures { result ≡ withTwo letter first second }
+    ensures { result ≡ with_two letter first second }
 {
     if letter == 112 {
         return Line::Write {
@@ -147,7 +147,7 @@ fn with_two(letter: u8, first: u64, second: u64) -> Line
 
 // The line ends in its first number.
 fn end_one(letter: u8, digits: Digits) -> Line
-    ensures { result ≡ endOne letter digits }
+    ensures { result ≡ end_one letter digits }
 {
     match digits {
         Digits::NoDigit => Line::Bad,
@@ -158,7 +158,7 @@ fn end_one(letter: u8, digits: Digits) -> Line
 
 // The line ends in its second number.
 fn end_two(letter: u8, first: u64, digits: Digits) -> Line
-    ensures { result ≡ endTwo letter first digits }
+    ensures { result ≡ end_two letter first digits }
 {
     match digits {
         Digits::NoDigit => Line::Bad,
@@ -169,7 +169,7 @@ fn end_two(letter: u8, first: u64, digits: Digits) -> Line
 
 // The line ends here.
 pub fn finish(parse: Parse) -> Line
-    ensures result { result ≡ lineRead parse }
+    ensures result { result ≡ line_read parse }
 {
     match parse {
         Parse::Start => Line::Bad,

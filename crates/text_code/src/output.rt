@@ -1,7 +1,7 @@
 // An answer as a line of output.
 ghost use Rattle.std.specs.Prelude.{◌≡◌, [], ◌∷◌, ◌++◌, ◌+◌, ◌*◌, ◌≤◌, ◌<◌, length, drop};
-ghost use Rattle.text.specs.Output.{text, decimal, numbersText, lineText, written, renderEnd, renderResult};
-ghost use Rattle.text.specs.inner.Output.{replySays, Wrote};
+ghost use Rattle.text.specs.Output.{text, decimal, numbers_text, line_text, written, render_end, render_result};
+ghost use Rattle.text.specs.inner.Output.{reply_says, Wrote};
 
 use text::Reply;
 
@@ -49,7 +49,7 @@ fn store_number(out: &mut [u8], at: usize, n: u64) -> usize
 // The word, each number after a space, and the end of the line: the position after them.
 fn store_line(out: &mut [u8], at: usize, word: &[u8], numbers: &[u64]) -> usize
     requires { at + length word.now + 21 * length numbers.now + 1 ≤ length out.old }
-    ensures { Wrote out.old out.new at result (word.now ++ numbersText numbers.now) }
+    ensures { Wrote out.old out.new at result (word.now ++ numbers_text numbers.now) }
 {
     store_bytes(out, at, word);
     let mut after = at + word.len();
@@ -65,7 +65,7 @@ fn store_line(out: &mut [u8], at: usize, word: &[u8], numbers: &[u64]) -> usize
 // The word and one number after it.
 pub fn store_one(out: &mut [u8], at: usize, word: &[u8], n: u64) -> usize
     requires { at + length word.now + 22 ≤ length out.old }
-    ensures result { Wrote out.old out.new at result (word.now ++ numbersText (n ∷ [])) }
+    ensures result { Wrote out.old out.new at result (word.now ++ numbers_text (n ∷ [])) }
 {
     store_line(out, at, word, &[n])
 }
@@ -73,7 +73,7 @@ pub fn store_one(out: &mut [u8], at: usize, word: &[u8], n: u64) -> usize
 // Numbers alone, with one space between: the position after them and the end of the line.
 pub fn store_numbers(out: &mut [u8], at: usize, first: u64, rest: &[u64]) -> usize
     requires { at + 21 * length rest.now + 21 ≤ length out.old }
-    ensures result { Wrote out.old out.new at result (lineText (first ∷ rest.now)) }
+    ensures result { Wrote out.old out.new at result (line_text (first ∷ rest.now)) }
 {
     let mut space = [0u8; 20];
     let from = store_digits(first, &mut space);
@@ -83,7 +83,7 @@ pub fn store_numbers(out: &mut [u8], at: usize, first: u64, rest: &[u64]) -> usi
 // The word and two numbers after it.
 fn store_two(out: &mut [u8], at: usize, word: &[u8], a: u64, b: u64) -> usize
     requires { at + length word.now + 43 ≤ length out.old }
-    ensures { Wrote out.old out.new at result (word.now ++ numbersText (a ∷ b ∷ [])) }
+    ensures { Wrote out.old out.new at result (word.now ++ numbers_text (a ∷ b ∷ [])) }
 {
     store_line(out, at, word, &[a, b])
 }
@@ -91,7 +91,7 @@ fn store_two(out: &mut [u8], at: usize, word: &[u8], a: u64, b: u64) -> usize
 // The answer's line, where 64 bytes are left.
 fn store_reply(reply: Reply, out: &mut [u8], at: usize) -> usize
     requires { at + 64 ≤ length out.old }
-    ensures { Wrote out.old out.new at result (text (replySays reply)) }
+    ensures { Wrote out.old out.new at result (text (reply_says reply)) }
 {
     match reply {
         Reply::Made(n) => store_one(out, at, b"ok", n),
@@ -110,7 +110,7 @@ fn store_reply(reply: Reply, out: &mut [u8], at: usize) -> usize
 // The answer's line is stored from position at on: the position after it. Where fewer than 64 bytes are left, nothing
 // is stored.
 pub fn render(reply: Reply, out: &mut [u8], at: usize) -> usize
-    ensures result { renderEnd result out.new ≡ renderResult (replySays reply) out.old at }
+    ensures result { render_end result out.new ≡ render_result (reply_says reply) out.old at }
 {
     if out.len() < at {
         return at;

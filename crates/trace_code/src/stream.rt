@@ -1,7 +1,7 @@
 // The input of a trace byte by byte, and the output in a lent slice.
 ghost use Rattle.std.specs.Prelude.{◌≡◌, length};
-ghost use Rattle.session.specs.Stream.{streamEnd, answerResult, byteResult, endResult};
-ghost use Rattle.trace.specs.Step.{traceResult};
+ghost use Rattle.session.specs.Stream.{stream_end, answer_result, byte_result, end_result};
+ghost use Rattle.trace.specs.Step.{trace_result};
 
 use session::Progress;
 use session_stream_code::stream::add_byte;
@@ -20,8 +20,8 @@ fn trace_answer(
     later: &mut [u8],
     out: &mut [u8],
 ) -> Progress
-    ensures stream { streamEnd result image.new heads.new next.new out.new ≡
-        answerResult (traceResult (length copy.old) (length later.old))
+    ensures stream { stream_end result image.new heads.new next.new out.new ≡
+        answer_result (trace_result (length copy.old) (length later.old))
         s image.old heads.old next.old out.old }
 {
     let parse = s.parse;
@@ -49,8 +49,8 @@ pub fn trace_byte(
     later: &mut [u8],
     out: &mut [u8],
 ) -> Progress
-    ensures stream { streamEnd result image.new heads.new next.new out.new ≡
-        byteResult (traceResult (length copy.old) (length later.old))
+    ensures stream { stream_end result image.new heads.new next.new out.new ≡
+        byte_result (trace_result (length copy.old) (length later.old))
         s byte image.old heads.old next.old out.old }
 {
     if byte == 10 {
@@ -69,8 +69,8 @@ pub fn trace_end(
     later: &mut [u8],
     out: &mut [u8],
 ) -> Progress
-    ensures stream { streamEnd result image.new heads.new next.new out.new ≡
-        endResult (traceResult (length copy.old) (length later.old))
+    ensures stream { stream_end result image.new heads.new next.new out.new ≡
+        end_result (trace_result (length copy.old) (length later.old))
         s image.old heads.old next.old out.old }
 {
     if s.begun {

@@ -1,13 +1,13 @@
 // A line of a trace on an image and an index of the set's size: the session's line, and the counts of the cuts of a
 // call that stores.
 ghost use Rattle.std.specs.Prelude.{◌≡◌, length};
-ghost use Rattle.interface.specs.Set.{zipped, changeEnd, changeSays};
-ghost use Rattle.text.specs.inner.Output.{replySays};
+ghost use Rattle.interface.specs.Set.{zipped, change_end, change_says};
+ghost use Rattle.text.specs.inner.Output.{reply_says};
 ghost use Rattle.text.specs.Output.{nothing};
 ghost use Rattle.text.specs.declared.Line.TheVariants.{Write, Remove};
-ghost use Rattle.session.specs.inner.Step.{stepEnd};
-ghost use Rattle.session.specs.Step.{changeStep, lineStep};
-ghost use Rattle.trace.specs.Step.{triedCounts, answerCounts, changeCounts, lineCounts, printing};
+ghost use Rattle.session.specs.inner.Step.{step_end};
+ghost use Rattle.session.specs.Step.{change_step, line_step};
+ghost use Rattle.trace.specs.Step.{tried_counts, answer_counts, change_counts, line_counts, printing};
 
 use orderset::{Change, CutCounts, Outcome, Stores, count_cuts, remove};
 use session::{Session, Stepped};
@@ -17,8 +17,8 @@ use text::{Line, Reply};
 
 // The cuts of these stores are tried on the image.
 fn try_cuts(image: &[u8], stores: Stores, copy: &mut [u8], later: &mut [u8]) -> Reply
-    ensures counts { replySays result ≡
-        triedCounts image.now (zipped stores.at stores.value) (length copy.old) (length later.old) }
+    ensures counts { reply_says result ≡
+        tried_counts image.now (zipped stores.at stores.value) (length copy.old) (length later.old) }
 {
     let counts = count_cuts(image, stores, copy, later);
     match counts {
@@ -35,9 +35,9 @@ fn try_change(
     copy: &mut [u8],
     later: &mut [u8],
 ) -> Reply
-    ensures counts { replySays result ≡
-        answerCounts image.now (zipped stores.at stores.value) (length copy.old) (length later.old)
-        (changeSays change.outcome) }
+    ensures counts { reply_says result ≡
+        answer_counts image.now (zipped stores.at stores.value) (length copy.old) (length later.old)
+        (change_says change.outcome) }
 {
     let outcome = change.outcome;
     match outcome {
@@ -61,10 +61,10 @@ fn trace_change(
     copy: &mut [u8],
     later: &mut [u8],
 ) -> Stepped
-    ensures step { stepEnd result image.new heads.new next.new ≡
-        printing (changeCounts image.old (length copy.old) (length later.old)
-        (changeEnd change stores.at stores.value heads.old next.old))
-        (changeStep session image.old (changeEnd change stores.at stores.value heads.old next.old)) }
+    ensures step { step_end result image.new heads.new next.new ≡
+        printing (change_counts image.old (length copy.old) (length later.old)
+        (change_end change stores.at stores.value heads.old next.old))
+        (change_step session image.old (change_end change stores.at stores.value heads.old next.old)) }
 {
     let reply = try_change(change, stores, image, copy, later);
     let stepped = carry_change(change, stores, session, image, heads, next);
@@ -86,10 +86,10 @@ fn trace_write(
     copy: &mut [u8],
     later: &mut [u8],
 ) -> Stepped
-    ensures step { stepEnd result image.new heads.new next.new ≡
-        printing (lineCounts (length copy.old) (length later.old)
+    ensures step { step_end result image.new heads.new next.new ≡
+        printing (line_counts (length copy.old) (length later.old)
         (Write key word) session image.old heads.old next.old)
-        (lineStep (Write key word) session image.old heads.old next.old) }
+        (line_step (Write key word) session image.old heads.old next.old) }
 {
     let state = session.state;
     let mut at = [0u32; 16];
@@ -117,10 +117,10 @@ fn trace_remove(
     copy: &mut [u8],
     later: &mut [u8],
 ) -> Stepped
-    ensures step { stepEnd result image.new heads.new next.new ≡
-        printing (lineCounts (length copy.old) (length later.old)
+    ensures step { step_end result image.new heads.new next.new ≡
+        printing (line_counts (length copy.old) (length later.old)
         (Remove key) session image.old heads.old next.old)
-        (lineStep (Remove key) session image.old heads.old next.old) }
+        (line_step (Remove key) session image.old heads.old next.old) }
 {
     let state = session.state;
     let mut at = [0u32; 16];
@@ -146,8 +146,8 @@ fn carry_silently(
     heads: &mut [u32],
     next: &mut [u32],
 ) -> Stepped
-    ensures step { stepEnd result image.new heads.new next.new ≡
-        printing nothing (lineStep line session image.old heads.old next.old) }
+    ensures step { step_end result image.new heads.new next.new ≡
+        printing nothing (line_step line session image.old heads.old next.old) }
 {
     let stepped = carry_line(line, session, image, heads, next);
     let after = stepped.session;
@@ -167,10 +167,10 @@ pub fn trace_line(
     copy: &mut [u8],
     later: &mut [u8],
 ) -> Stepped
-    ensures step { stepEnd result image.new heads.new next.new ≡
-        printing (lineCounts (length copy.old) (length later.old)
+    ensures step { step_end result image.new heads.new next.new ≡
+        printing (line_counts (length copy.old) (length later.old)
         line session image.old heads.old next.old)
-        (lineStep line session image.old heads.old next.old) }
+        (line_step line session image.old heads.old next.old) }
 {
     match line {
         Line::New(_) => carry_silently(line, session, image, heads, next),

@@ -1,7 +1,7 @@
 // One line of a trace: it is judged, and carried out on the front of the image and the index.
 ghost use Rattle.std.specs.Prelude.{◌≡◌, length};
-ghost use Rattle.session.specs.inner.Step.{stepEnd};
-ghost use Rattle.trace.specs.Step.{withoutCut, traceResult};
+ghost use Rattle.session.specs.inner.Step.{step_end};
+ghost use Rattle.trace.specs.Step.{without_cut, trace_result};
 
 use session::{Session, Stepped};
 use session_refusal_code::refusal::{line_fault, slots_for};
@@ -11,7 +11,7 @@ use words_code::lesser;
 
 // A line with c is a line of none of the forms.
 fn without_cut(line: Line) -> Line
-    ensures line { result ≡ withoutCut line }
+    ensures line { result ≡ without_cut line }
 {
     match line {
         Line::New(_) => line,
@@ -35,8 +35,8 @@ pub fn trace_step(
     copy: &mut [u8],
     later: &mut [u8],
 ) -> Stepped
-    ensures step { stepEnd result image.new heads.new next.new ≡
-        traceResult (length copy.old) (length later.old) line session image.old heads.old next.old }
+    ensures step { step_end result image.new heads.new next.new ≡
+        trace_result (length copy.old) (length later.old) line session image.old heads.old next.old }
 {
     let asked = without_cut(line);
     let fault = line_fault(asked, session, image.len(), heads.len(), next.len());

@@ -16,10 +16,10 @@ word s i =
     (get_or s (8 * i + 4) 0) (get_or s (8 * i + 5) 0) (get_or s (8 * i + 6) 0) (get_or s (8 * i + 7) 0)
 
 -- s with the first n bytes of v, low byte first, from position k on
-unfoldable pub setBytes : List ℕ → (k n v : ℕ) → List ℕ
-setBytes s k zero v = s
-setBytes s k (suc n) v = setBytes (set s k (v % 256)) (suc k) n (v / 256)
+unfoldable pub set_bytes : List ℕ → (k n v : ℕ) → List ℕ
+set_bytes s k zero v = s
+set_bytes s k (suc n) v = set_bytes (set s k (v % 256)) (suc k) n (v / 256)
 
 -- s with v at word i
-unfoldable pub setWord : List ℕ → (i v : ℕ) → List ℕ
-setWord s i v = setBytes s (8 * i) 8 v
+unfoldable pub set_word : List ℕ → (i v : ℕ) → List ℕ
+set_word s i v = set_bytes s (8 * i) 8 v

@@ -1,6 +1,6 @@
 // Words of 8 bytes, low byte first, in a lent slice of bytes.
 ghost use Rattle.std.specs.Prelude.{◌≡◌, ◌+◌, ◌-◌, ◌*◌, ◌≤◌, max, min, length, get_or};
-ghost use Rattle.words.specs.Word.{joined, word, setBytes, setWord};
+ghost use Rattle.words.specs.Word.{joined, word, set_bytes, set_word};
 
 // The lesser of two numbers.
 pub fn lesser(a: usize, b: usize) -> usize
@@ -57,7 +57,7 @@ pub fn read_word(image: &[u8], i: usize) -> u64
 // Word i of the image becomes v.
 pub fn write_word(image: &mut [u8], i: usize, v: u64)
     requires { 8 * i + 8 ≤ length image.old }
-    ensures result { image.new ≡ setWord image.old i v }
+    ensures result { image.new ≡ set_word image.old i v }
 {
     let at = 8 * i;
     image[at] = (v % 256) as u8;
@@ -73,7 +73,7 @@ pub fn write_word(image: &mut [u8], i: usize, v: u64)
 // The first n bytes of v are stored from position at on.
 fn write_bytes(image: &mut [u8], at: usize, n: usize, v: u64)
     requires { at + n ≤ length image.old }
-    ensures { image.new ≡ setBytes image.old at n v }
+    ensures { image.new ≡ set_bytes image.old at n v }
 {
     let mut k = 0;
     let mut rest = v;
@@ -87,7 +87,7 @@ fn write_bytes(image: &mut [u8], at: usize, n: usize, v: u64)
 // Word i of the first n bytes becomes v: a whole word, or the bytes of it that are among them.
 pub fn write_part(image: &mut [u8], i: usize, n: usize, v: u64)
     requires { (8 * i ≤ n) × (n ≤ length image.old) }
-    ensures result { image.new ≡ setBytes image.old (8 * i) (min 8 (n - 8 * i)) v }
+    ensures result { image.new ≡ set_bytes image.old (8 * i) (min 8 (n - 8 * i)) v }
 {
     if i < n / 8 {
         write_word(image, i, v);

@@ -4,8 +4,8 @@ use mathlib.Core.Bool.{Bool, true, false, true≢false}
 use Prim.Native.Nat.{ℕ, ◌+◌, ◌<◌, ◌≤◌}
 use native.Mathlib.Omega.{arith}
 use borrow.Author.Tests.{lt-ltb, le-ltb}
-use Rattle.prelude.proofs.Choice.{pick_true, pick-false}
-use Rattle.session.specs.Stream.{lacksRoom}
+use Rattle.prelude.proofs.Choice.{pick_true, pick_false}
+use Rattle.session.specs.Stream.{lacks_room}
 use Rattle.session.specs.declared.Progress.{Progress}
 use borrow.Author.Rules.{rules}
 use Rattle.console.proofs.after_byte.Statement.{statement}
@@ -15,12 +15,12 @@ use Rattle.console.proofs.after_byte.Tie as tie
 not-both : {A : Type 0} (b : Bool) → b ≡ false → b ≡ true → A
 not-both b f e = absurd (true≢false (sym e ∙ f))
 
-full : (p : Progress) (size : ℕ) → size < p.at + 64 → lacksRoom p size ≡ true
-unfolding lacksRoom
+full : (p : Progress) (size : ℕ) → size < p.at + 64 → lacks_room p size ≡ true
+unfolding lacks_room
 full p size h = lt-ltb size (p.at + 64) h
 
-roomy : (p : Progress) (size : ℕ) → p.at + 64 ≤ size → lacksRoom p size ≡ false
-unfolding lacksRoom
+roomy : (p : Progress) (size : ℕ) → p.at + 64 ≤ size → lacks_room p size ≡ false
+unfolding lacks_room
 roomy p size h = le-ltb size (p.at + 64) h
 
 returns : tie.Need-returns
@@ -37,7 +37,7 @@ returns-2 c =
     )
 
 returns-3 : tie.Need-returns-3
-returns-3 c = (sym (pick-false _ _ _ (roomy _ _ (omega (arith, c.before.if1.false, c.if2.false)))), (refl, λ e. refl))
+returns-3 c = (sym (pick_false _ _ _ (roomy _ _ (omega (arith, c.before.if1.false, c.if2.false)))), (refl, λ e. refl))
 
 pub after-byte-spec : {M : Type 1} → statement M
 after-byte-spec =

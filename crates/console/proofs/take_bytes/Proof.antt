@@ -4,8 +4,8 @@ use mathlib.Core.Bool.{Bool, true, false, not, true≢false}
 use Prim.Native.Nat.{◌-◌}
 use native.Mathlib.Omega.{arith}
 use lib.ListN.{length}
-use Rattle.session.specs.Step.{stepResult}
-use Rattle.session.specs.Stream.{streamEnd}
+use Rattle.session.specs.Step.{step_result}
+use Rattle.session.specs.Stream.{stream_end}
 use Rattle.session.proofs.Readings.{Reading, read_more, read_done}
 use borrow.Author.Rules.{rules}
 use Rattle.console.proofs.take_bytes.Statement.{statement}
@@ -14,7 +14,7 @@ use Rattle.console.proofs.take_bytes.Tie as tie
 abbrev invariant-loop : tie.invariant-loop
 invariant-loop input image₀ heads₀ next₀ out₀ u₀ i₀ image heads next out u i =
     (length image ≡ length image₀) × (length heads ≡ length heads₀) × (length next ≡ length next₀) × (length out ≡ length out₀)
-    × Reading stepResult input (streamEnd u₀.progress image₀ heads₀ next₀ out₀) i u.progress image heads next out
+    × Reading step_result input (stream_end u₀.progress image₀ heads₀ next₀ out₀) i u.progress image heads next out
 
 abbrev decreases-loop : tie.decreases-loop
 decreases-loop input image₀ heads₀ next₀ out₀ u₀ i₀ image heads next out u i = length input - i

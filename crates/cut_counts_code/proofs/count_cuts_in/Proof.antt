@@ -2,7 +2,7 @@
 use native.Mathlib.Omega.{arith}
 use lib.ListN.{length}
 use borrow.Author.Rules.{rules}
-use Rattle.layout.proofs.Size.{slots-high}
+use Rattle.layout.proofs.Size.{slots_high}
 use Rattle.cut_counts_code.proofs.count_cuts_in.Statement.{statement}
 use Rattle.cut_counts_code.proofs.count_cuts_in.Tie as tie
 
@@ -11,8 +11,8 @@ count-65536-requires c κs =
     let at-slot-count = c.before.before.before in
     let at-start = at-slot-count.before.before.before.before in (
       at-start.requires,
-      at-slot-count.slot-count.ensures,
-      omega (arith, at-slot-count.slot-count.ensures, slots-high (length at-start.args.image.now)),
+      at-slot-count.slot_count.ensures,
+      omega (arith, at-slot-count.slot_count.ensures, slots_high (length at-start.args.image.now)),
     )
 
 pub count-cuts-in-spec : {M : Type 1} → statement M

@@ -6,7 +6,7 @@ use lib.Dec.{eqb}
 use Rattle.index.specs.declared.Found.{Found}
 use Rattle.index.specs.declared.Found.TheVariants.{At, Missing}
 
-unfoldable pub searchIn : (keys : ℕ → ℕ) → (key compared prev : ℕ) → List ℕ → Found
-searchIn keys key compared prev [] = Missing prev compared
-searchIn keys key compared prev (x ∷ xs) =
-    cond (eqb (keys x) key) (At x prev (compared + 1)) (searchIn keys key (compared + 1) x xs)
+unfoldable pub search_in : (keys : ℕ → ℕ) → (key compared prev : ℕ) → List ℕ → Found
+search_in keys key compared prev [] = Missing prev compared
+search_in keys key compared prev (x ∷ xs) =
+    cond (eqb (keys x) key) (At x prev (compared + 1)) (search_in keys key (compared + 1) x xs)

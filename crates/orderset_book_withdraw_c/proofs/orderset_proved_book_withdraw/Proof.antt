@@ -1,11 +1,11 @@
 -- `orderset_book_withdraw_c::orderset_proved_book_withdraw` meets its contract. Assumes nothing.
 use borrow.Author.Rules.{rules}
-use Rattle.interface.proofs.SetLaws.{key-alone}
+use Rattle.interface.proofs.SetLaws.{key_alone}
 use Rattle.orderset_book_withdraw_c.proofs.orderset_proved_book_withdraw.Statement.{statement}
 use Rattle.orderset_book_withdraw_c.proofs.orderset_proved_book_withdraw.Tie as tie
 
 returns : tie.Need-returns
-returns c = simp key-alone at c.before.before.before.before.withdraw-call.ensures
+returns c = simp key_alone at c.before.before.before.before.withdraw-call.ensures
 
 pub orderset-proved-book-withdraw-spec : {M : Type 1} → statement M
 orderset-proved-book-withdraw-spec = tie.close (tie.spec (λ c κs. search rules) (λ c. search rules) (λ c. search rules) returns)

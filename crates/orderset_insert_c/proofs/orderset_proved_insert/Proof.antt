@@ -1,11 +1,11 @@
 -- `orderset_insert_c::orderset_proved_insert` meets its contract. Assumes nothing.
 use borrow.Author.Rules.{rules}
-use Rattle.interface.proofs.SetLaws.{key-alone}
+use Rattle.interface.proofs.SetLaws.{key_alone}
 use Rattle.orderset_insert_c.proofs.orderset_proved_insert.Statement.{statement}
 use Rattle.orderset_insert_c.proofs.orderset_proved_insert.Tie as tie
 
 returns : tie.Need-returns
-returns c = simp key-alone at c.before.before.before.before.write-call.ensures
+returns c = simp key_alone at c.before.before.before.before.write-call.ensures
 
 pub orderset-proved-insert-spec : {M : Type 1} → statement M
 orderset-proved-insert-spec = tie.close (tie.spec (λ c κs. search rules) (λ c. search rules) (λ c. search rules) returns)

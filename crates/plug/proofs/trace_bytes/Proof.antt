@@ -1,9 +1,9 @@
 -- `plug::trace_bytes` meets its contract. Assumes nothing.
 use Rattle.std.proofs.Common.{◌≡◌, ℕ, ◌-◌, Bool, true, false, not, List, length, sym, refl, ◌∙◌, ap₂, true≢false, arith, rules}
-use Rattle.session.specs.Stream.{StreamResult, streamEnd, byteResult}
+use Rattle.session.specs.Stream.{StreamResult, stream_end, byte_result}
 use Rattle.session.specs.declared.Progress.{Progress}
 use Rattle.session.proofs.Readings.{Reading, read_more, read_done}
-use Rattle.trace.specs.Step.{traceResult}
+use Rattle.trace.specs.Step.{trace_result}
 use Rattle.plug.proofs.trace_bytes.Statement.{statement}
 use Rattle.plug.proofs.trace_bytes.Tie as tie
 
@@ -11,7 +11,7 @@ abbrev invariant-loop : tie.invariant-loop
 invariant-loop input image₀ heads₀ next₀ copy₀ later₀ out₀ u₀ tried₀ i₀ image heads next copy later out u tried i =
     (length image ≡ length image₀) × (length heads ≡ length heads₀) × (length next ≡ length next₀) × (length copy ≡ length copy₀)
     × (length later ≡ length later₀) × (length out ≡ length out₀)
-    × Reading (traceResult (length copy₀) (length later₀)) input (streamEnd u₀.progress image₀ heads₀ next₀ out₀) i u.progress image heads next out
+    × Reading (trace_result (length copy₀) (length later₀)) input (stream_end u₀.progress image₀ heads₀ next₀ out₀) i u.progress image heads next out
 
 abbrev decreases-loop : tie.decreases-loop
 decreases-loop input image₀ heads₀ next₀ copy₀ later₀ out₀ u₀ tried₀ i₀ image heads next copy later out u tried i = length input - i
@@ -23,9 +23,9 @@ not_written false f e = absurd (true≢false (sym e))
 
 -- the two slices that the cuts are tried in keep their lengths
 by_lengths : (copy later copy' later' : ℕ) (s : Progress) (byte : ℕ) (image heads next out : List ℕ) (r : StreamResult) → copy ≡ copy' → later ≡ later'
-    → r ≡ byteResult (traceResult copy later) s byte image heads next out → r ≡ byteResult (traceResult copy' later') s byte image heads next out
+    → r ≡ byte_result (trace_result copy later) s byte image heads next out → r ≡ byte_result (trace_result copy' later') s byte image heads next out
 by_lengths copy later copy' later' s byte image heads next out r c d e =
-    e ∙ ap₂ (λ (x y : ℕ). byteResult (traceResult x y) s byte image heads next out) c d
+    e ∙ ap₂ (λ (x y : ℕ). byte_result (trace_result x y) s byte image heads next out) c d
 
 -- the points that the proof uses, each by the way from the one after it
 abbrev arg6-to-in-loop : tie.After-trace-byte-arg6 invariant-loop decreases-loop → tie.In-loop invariant-loop decreases-loop

@@ -2,7 +2,7 @@
 use mathlib.Core.Bool.{Bool, true, false}
 use Rattle.prelude.specs.Answer.{Answer, gives, absent, refused}
 
-unfoldable pub isRefusal : Answer → Bool
-isRefusal (gives given) = false
-isRefusal absent = false
-isRefusal (refused number) = true
+unfoldable pub is_refusal : Answer → Bool
+is_refusal (gives given) = false
+is_refusal absent = false
+is_refusal (refused number) = true

@@ -16,6 +16,6 @@ without x [] = []
 without x (y ∷ l) = cond (eqb x y) l (y ∷ without x l)
 
 -- the sum of f over a list
-unfoldable pub sumOver : (f : ℕ → ℕ) → List ℕ → ℕ
-sumOver f [] = 0
-sumOver f (x ∷ l) = f x + sumOver f l
+unfoldable pub sum_over : (f : ℕ → ℕ) → List ℕ → ℕ
+sum_over f [] = 0
+sum_over f (x ∷ l) = f x + sum_over f l

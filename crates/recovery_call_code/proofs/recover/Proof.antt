@@ -8,4 +8,4 @@ pub recover-spec : {M : Type 1} → statement M
 recover-spec =
     tie.close
     (tie.spec (λ c κs. record { low = omega arith; high = omega arith }) (λ c. search rules) (λ c. search rules)
-    (λ c. let at-recover-in = c.before.before.before.before.before in at-recover-in.recover-in.ensures.result-is))
+    (λ c. let at-recover-in = c.before.before.before.before.before in at-recover-in.recover-in.ensures.result_is))

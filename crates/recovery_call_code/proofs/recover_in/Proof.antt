@@ -2,7 +2,7 @@
 use native.Mathlib.Omega.{arith}
 use borrow.Author.Rules.{rules}
 use Rattle.recovery.specs.inner.Judge.{Ready}
-use Rattle.recovery.proofs.Recovers.{lent-refused, lent-ready, lent-few}
+use Rattle.recovery.proofs.Recovers.{lent_refused, lent_ready, lent_few}
 use Rattle.recovery_call_code.proofs.recover_in.Statement.{statement}
 use Rattle.recovery_call_code.proofs.recover_in.Tie as tie
 
@@ -31,12 +31,12 @@ slice-known14-to-recover-65536 at = at.before.before.before.before
 -- where nothing that is lent has a fault, and the slots are counted
 ready : (at : tie.After-slot-count)
     → Ready (slot-count-to-start at).args.image.now (slot-count-to-start at).args.l (slot-count-to-start at).args.heads.now
-    (slot-count-to-start at).args.next.now at.slot-count.result
+    (slot-count-to-start at).args.next.now at.slot_count.result
 ready at =
-    lent-ready _ _ _ _ _ _ (slot-count-to-start at).requires at.before.before.lent-fault.ensures at.before.if1.false at.slot-count.ensures
+    lent_ready _ _ _ _ _ _ (slot-count-to-start at).requires at.before.before.lent-fault.ensures at.before.if1.false at.slot_count.ensures
 
 returns : tie.Need-returns
-returns c = lent-refused _ _ _ _ _ _ _ c.before.before.lent-fault.ensures c.before.if1.true c.no-invalidations.ensures
+returns c = lent_refused _ _ _ _ _ _ _ c.before.before.lent-fault.ensures c.before.if1.true c.no-invalidations.ensures
 
 recover-64-requires : tie.Need-recover-64-requires
 recover-64-requires c κs = (ready c.before.before.before, omega (arith, c.before.before.if2.true))
@@ -58,8 +58,8 @@ recover-65536-requires c κs =
     let at-slot-count = c.before.before.before.before.before.before.before in
     let at-start = slot-count-to-start at-slot-count in (
       ready at-slot-count,
-      lent-few _ at-start.args.image.now at-start.args.heads.now at-start.args.next.now _ _ at-slot-count.before.before.lent-fault.ensures
-          at-slot-count.before.if1.false at-slot-count.slot-count.ensures,
+      lent_few _ at-start.args.image.now at-start.args.heads.now at-start.args.next.now _ _ at-slot-count.before.before.lent-fault.ensures
+          at-slot-count.before.if1.false at-slot-count.slot_count.ensures,
     )
 
 pub recover-in-spec : {M : Type 1} → statement M

@@ -4,7 +4,7 @@ use native.Mathlib.Omega.{arith}
 use lib.ListN.{length}
 use borrow.Author.Rules.{rules}
 use Rattle.prelude.proofs.Lists.{front_length}
-use Rattle.report_text.proofs.Fronts.{unrefused, front-printed, buffers-next}
+use Rattle.report_text.proofs.Fronts.{unrefused, front_printed, buffers_next}
 use Rattle.report.proofs.read_and_report.Statement.{statement}
 use Rattle.report.proofs.read_and_report.Tie as tie
 
@@ -27,7 +27,7 @@ printed : (at : tie.After-reported) → at.reported.result.block.end ≤ length 
 printed at =
     let at_front = at.before.before.before.before.before in
     let at_read = front-to-read at_front in
-    front-printed _ _ _ _ _ _ _ at_front.report-front.ensures (inside at_read) (room at_read) _ at.reported.ensures
+    front_printed _ _ _ _ _ _ _ at_front.report-front.ensures (inside at_read) (room at_read) _ at.reported.ensures
 
 reported-requires : tie.Need-reported-requires
 reported-requires c κs =
@@ -51,7 +51,7 @@ returns c =
     let at_front = at-reported.before.before.before.before.before in
     let at_read = front-to-read at_front in
     let front = at_front.report-front in
-    buffers-next _ _ _ _ _ _ _ front.ensures (inside at_read) (room at_read) _ at-reported.reported.ensures front.auto.0 front.auto.1.1.1.0
+    buffers_next _ _ _ _ _ _ _ front.ensures (inside at_read) (room at_read) _ at-reported.reported.ensures front.auto.0 front.auto.1.1.1.0
 
 pub read-and-report-spec : {M : Type 1} → statement M
 read-and-report-spec =

@@ -2,7 +2,7 @@
 use Rattle.std.specs.Prelude.{◌≡◌, List, ℕ, ◌+◌, ◌-◌, ◌*◌, ◌/◌, ◌≤◌, length}
 use Rattle.prelude.specs.Answer.{Answer}
 use Rattle.text.specs.inner.Output.{Wrote}
-use Rattle.report_text.specs.Report.{imageAnswer, answerText, totalsWith}
+use Rattle.report_text.specs.Report.{image_answer, answer_text, totals_with}
 use Rattle.report_text.specs.Blocks.{TotalsBounded}
 use Rattle.report_text.specs.declared.ReportProgress.{ReportProgress}
 use Rattle.report_text.specs.declared.ImageReport.{ImageReport}
@@ -10,8 +10,8 @@ use Rattle.report_text.specs.declared.FrontAnswer.{FrontAnswer}
 use Rattle.report_text.specs.declared.FrontAnswer.TheVariants.{Reported, Refused}
 
 -- one image more
-unfoldable pub progressWith : Answer → ReportProgress → ReportProgress
-progressWith a p = record { left = p.left - 1; totals = totalsWith a p.totals }
+unfoldable pub progress_with : Answer → ReportProgress → ReportProgress
+progress_with a p = record { left = p.left - 1; totals = totals_with a p.totals }
 
 -- the image is one of 2 to 511 slots, there is an entry of next for each, and room for a line
 pub record Reportable (image next : List ℕ) (p : ReportProgress) (out : List ℕ) (at : ℕ) : Type 0 where
@@ -19,15 +19,15 @@ pub record Reportable (image next : List ℕ) (p : ReportProgress) (out : List �
   pub low : 2 ≤ slots
   pub high : slots ≤ 511
   pub size : length image ≡ 128 * (slots + 1)
-  pub next-size : length next ≡ 512
+  pub next_size : length next ≡ 512
   pub some_left : 1 ≤ p.left
   pub held : TotalsBounded p
   pub room : at + 128 ≤ length out
 
 -- its line was stored, and it was counted
 pub record ImageReported (image : List ℕ) (p : ReportProgress) (old : List ℕ) (at : ℕ) (new : List ℕ) (r : ImageReport) : Type 0 where
-  pub wrote : Wrote old new at r.end (answerText (imageAnswer image))
-  pub progress-is : r.progress ≡ progressWith (imageAnswer image) p
+  pub wrote : Wrote old new at r.end (answer_text (image_answer image))
+  pub progress_is : r.progress ≡ progress_with (image_answer image) p
   pub held : TotalsBounded r.progress
 
 -- a block of input, and room for the lines of its images and for two more

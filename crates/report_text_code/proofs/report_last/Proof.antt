@@ -1,8 +1,8 @@
 -- `report_text_code::report_last` meets its contract. Assumes nothing.
 use native.Mathlib.Omega.{arith}
 use borrow.Author.Rules.{rules}
-use Rattle.report_text.proofs.Blocks.{totals-room, last-reported}
-use Rattle.report_text.proofs.Fronts.{last-refused, last-lent, last-whole}
+use Rattle.report_text.proofs.Blocks.{totals_room, last_reported}
+use Rattle.report_text.proofs.Fronts.{last_refused, last_lent, last_whole}
 use Rattle.report_text_code.proofs.report_last.Statement.{statement}
 use Rattle.report_text_code.proofs.report_last.Tie as tie
 
@@ -16,14 +16,14 @@ store-unread-to-report-block at = at.before.before.before.before.before.before.b
 returns : tie.Need-returns
 returns c = (
   let at-start = is-lent-to-start c.before in
-      last-refused at-start.args.input.now at-start.args.p at-start.args.out.now _ c.before.is-lent.ensures c.if1.true,
+      last_refused at-start.args.input.now at-start.args.p at-start.args.out.now _ c.before.is-lent.ensures c.if1.true,
   omega arith,
 )
 
 report-block-requires : tie.Need-report-block-requires
 report-block-requires c κs =
     let at-start = is-lent-to-start c.before.before in
-    last-lent at-start.args.input.now at-start.args.p at-start.args.out.now _ c.before.before.is-lent.ensures c.before.if1.false
+    last_lent at-start.args.input.now at-start.args.p at-start.args.out.now _ c.before.before.is-lent.ensures c.before.if1.false
 
 store-unread-requires : tie.Need-store-unread-requires
 store-unread-requires c κs =
@@ -35,7 +35,7 @@ store-unread-requires c κs =
       block.ensures.thirds,
       block.ensures.inside,
       block.auto.1.1.0,
-      (last-lent at-start.args.input.now at-start.args.p
+      (last_lent at-start.args.input.now at-start.args.p
           at-start.args.out.now _ at-report-block.before.before.before.is-lent.ensures at-report-block.before.before.if1.false).room,
     )
 
@@ -45,10 +45,10 @@ store-totals-requires c κs =
     let at-start = is-lent-to-start at-report-block.before.before.before in
     let block = at-report-block.report-block in
     let unread = c.before.before.before.store-unread in
-    totals-room _ _ _ _ _ _ block.ensures unread.ensures
+    totals_room _ _ _ _ _ _ block.ensures unread.ensures
     (omega (
       arith,
-      (last-lent at-start.args.input.now at-start.args.p at-start.args.out.now _
+      (last_lent at-start.args.input.now at-start.args.p at-start.args.out.now _
           at-report-block.before.before.before.is-lent.ensures at-report-block.before.before.if1.left).room,
       block.kept.1.1.0,
     ))
@@ -64,14 +64,14 @@ returns-2 c =
     let block = at-report-block.report-block in
     let unread = at-store-unread.store-unread in
     let totals = c.before.before.store-totals in
-    let reported = last-reported _ _ _ _ _ _ _ _ block.ensures unread.ensures totals.ensures
+    let reported = last_reported _ _ _ _ _ _ _ _ block.ensures unread.ensures totals.ensures
     (omega (
       arith,
-      (last-lent at-start.args.input.now at-start.args.p at-start.args.out.now _ at-is-lent.is-lent.ensures
+      (last_lent at-start.args.input.now at-start.args.p at-start.args.out.now _ at-is-lent.is-lent.ensures
           at-else1.if1.left).room,
       block.kept.1.1.0,
     )) unread.auto.1.1.0 totals.auto.1.0 in (
-      last-whole at-start.args.input.now at-start.args.p at-start.args.out.now _ at-is-lent.is-lent.ensures at-else1.if1.left _
+      last_whole at-start.args.input.now at-start.args.p at-start.args.out.now _ at-is-lent.is-lent.ensures at-else1.if1.left _
           reported.0,
       reported.1,
     )

@@ -4,7 +4,7 @@ use mathlib.Core.List.{List}
 use Prim.Native.Nat.{ℕ, ◌+◌, ◌*◌, ◌≤◌}
 use lib.ListN.{length}
 use Rattle.prelude.specs.Members.{All}
-use Rattle.stores.specs.Store.{Store, played, standing, allStand}
+use Rattle.stores.specs.Store.{Store, played, standing, all_stand}
 use Rattle.restart_machine.specs.Machine.{Library, TakenRequest}
 use Rattle.restart_machine.specs.Rule.{Promise}
 
@@ -18,25 +18,25 @@ pub record Laws {Lent Held Request M : Type 0} (library : Library Lent Held Requ
   -- ---- an image that is ready
 
   pub recovers : (image : List ℕ) (m : M) → Ready image m → promise.Recovers image m
-  pub recovery-right : (image : List ℕ) (m : M) → Ready image m → (lent : Lent) → promise.RecoveryCorrect image lent m
-  pub recovery-inside : (image : List ℕ) (m : M) → Ready image m → (lent : Lent)
+  pub recovery_right : (image : List ℕ) (m : M) → Ready image m → (lent : Lent) → promise.RecoveryCorrect image lent m
+  pub recovery_inside : (image : List ℕ) (m : M) → Ready image m → (lent : Lent)
       → Inside (length image) (library.recovery image lent).stores
   -- so it is with any part of recovery's stores, and with all of them it is in use
-  pub recovery-part : (image : List ℕ) (m : M) → Ready image m → (lent : Lent) → (counts : ℕ → ℕ)
+  pub recovery_part : (image : List ℕ) (m : M) → Ready image m → (lent : Lent) → (counts : ℕ → ℕ)
       → Ready (played (standing counts (library.recovery image lent).stores) image) m
-  pub recovery-done : (image : List ℕ) (m : M) → Ready image m → (lent : Lent)
+  pub recovery_done : (image : List ℕ) (m : M) → Ready image m → (lent : Lent)
       → InUse (played (library.recovery image lent).stores image) (library.recovery image lent).held m
   -- ---- an image in use
 
-  pub use-ready : (image : List ℕ) (held : Held) (m : M) → InUse image held m → Ready image m
-  pub request-right : (image : List ℕ) (held : Held) (m : M) → InUse image held m → (request : Request)
+  pub use_ready : (image : List ℕ) (held : Held) (m : M) → InUse image held m → Ready image m
+  pub request_right : (image : List ℕ) (held : Held) (m : M) → InUse image held m → (request : Request)
       → promise.RequestCorrect image held m request
-  pub request-inside : (image : List ℕ) (held : Held) (m : M) → InUse image held m → (request : Request)
+  pub request_inside : (image : List ℕ) (held : Held) (m : M) → InUse image held m → (request : Request)
       → Inside (length image) (library.call image held request).stores
   -- with any part of a request's stores it is ready, wholly done or not at all; with all of them it is in use
-  pub request-part : (image : List ℕ) (held : Held) (m : M) → InUse image held m → (request : Request) → (counts : ℕ → ℕ)
+  pub request_part : (image : List ℕ) (held : Held) (m : M) → InUse image held m → (request : Request) → (counts : ℕ → ℕ)
       → Ready (played (standing counts (library.call image held request).stores) image)
-      (cond (allStand counts (library.call image held request).stores) (promise.after (record { request = request; image = image; held = held }) m) m)
-  pub request-done : (image : List ℕ) (held : Held) (m : M) → InUse image held m → (request : Request)
+      (cond (all_stand counts (library.call image held request).stores) (promise.after (record { request = request; image = image; held = held }) m) m)
+  pub request_done : (image : List ℕ) (held : Held) (m : M) → InUse image held m → (request : Request)
       → InUse (played (library.call image held request).stores image) (library.call image held request).held
       (promise.after (record { request = request; image = image; held = held }) m)

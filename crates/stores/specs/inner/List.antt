@@ -4,8 +4,8 @@ use Rattle.stores.specs.Store.{Store, zipped}
 
 -- "records past them are kept": the first n stores that a list of word numbers and a list of values name, at the front
 -- of a lent list
-abbrev pub storesPut : (at value : List ℕ) → (n : ℕ) → (lent : List Store) → List Store
-storesPut at value n lent = zipped (take n at) (take n value) ++ drop n lent
+abbrev pub stores_put : (at value : List ℕ) → (n : ℕ) → (lent : List Store) → List Store
+stores_put at value n lent = zipped (take n at) (take n value) ++ drop n lent
 
 -- the words of all stores lie inside len bytes
 abbrev pub AllInside : (len : ℕ) → List Store → Type 0

@@ -8,7 +8,7 @@ pub record Recordable (l kind number : ℕ) (value : List ℕ) (version : ℕ) :
   pub kind_fits : kind < 256
   pub number_fits : number < 256
   pub size : length value ≤ limit l
-  pub version-fits : version < 2 ^ 63
+  pub version_fits : version < 2 ^ 63
 
 -- both lists have the stores with the numbers `from` to `from` + `count` - 1, and an image of len bytes has their words
 pub record Makeable (len : ℕ) (at value : List ℕ) (from count : ℕ) : Type 0 where

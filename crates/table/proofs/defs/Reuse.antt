@@ -6,7 +6,7 @@ use Prim.Native.Nat.{ℕ, zero, suc}
 use Rattle.layout.specs.Content.{Content, Table}
 use Rattle.prelude.specs.Members.{In, Once, Slot}
 use Rattle.table.specs.Table.{live}
-use Rattle.table.specs.Class.{isPut}
+use Rattle.table.specs.Class.{is_put}
 use Rattle.table.proofs.defs.Write.{holder}
 
 -- reuse holds the slots that are not live, each once
@@ -25,4 +25,4 @@ appended (suc old) false s = suc old ∷ (s ∷ [])
 
 -- for a record c of key k written into slot s of table f
 abbrev pub joins : Table → (n s k : ℕ) → Content → List ℕ
-joins f n s k c = appended (holder f n k) (isPut c) s
+joins f n s k c = appended (holder f n k) (is_put c) s

@@ -4,6 +4,6 @@ use Prim.Native.Nat.{ℕ}
 use Rattle.text.specs.declared.Parse.{Parse}
 use Rattle.text.specs.Parsing.{fed}
 
-unfoldable pub fedAll : Parse → List ℕ → Parse
-fedAll parse [] = parse
-fedAll parse (byte ∷ bytes) = fedAll (fed parse byte) bytes
+unfoldable pub fed_all : Parse → List ℕ → Parse
+fed_all parse [] = parse
+fed_all parse (byte ∷ bytes) = fed_all (fed parse byte) bytes

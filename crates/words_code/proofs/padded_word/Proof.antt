@@ -3,12 +3,12 @@ use mathlib.Core.Path.{sym}
 use native.Mathlib.Omega.{arith}
 use borrow.Author.Rules.{rules}
 use Rattle.words.specs.Word.{word}
-use Rattle.words.proofs.Laws.{word-past}
+use Rattle.words.proofs.Laws.{word_past}
 use Rattle.words_code.proofs.padded_word.Statement.{statement}
 use Rattle.words_code.proofs.padded_word.Tie as tie
 
 returns-2 : tie.Need-returns-2
-returns-2 c = sym (word-past _ _ (omega arith))
+returns-2 c = sym (word_past _ _ (omega arith))
 
 returns-3 : tie.Need-returns-3
 unfolding word

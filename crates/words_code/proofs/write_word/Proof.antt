@@ -2,7 +2,7 @@
 use native.Mathlib.Omega.{arith}
 use lib.ListN.{length-set}
 use borrow.Author.Rules.{rules}
-use Rattle.words.proofs.Laws.{bytes-written}
+use Rattle.words.proofs.Laws.{bytes_written}
 use Rattle.words_code.proofs.write_word.Statement.{statement}
 use Rattle.words_code.proofs.write_word.Tie as tie
 
@@ -25,4 +25,4 @@ write-word-spec =
     (λ c. search rules) (λ c. search rules)
     (λ c. simp length-set (omega arith))
     (λ c. simp length-set)
-    (λ c. bytes-written _ _ _))
+    (λ c. bytes_written _ _ _))

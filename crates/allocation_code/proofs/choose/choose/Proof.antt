@@ -11,8 +11,8 @@ newest-version-requires c κs = omega (arith, c.before.before.requires.0.image-s
 returns : tie.Need-returns
 returns c =
     record {
-      fault-is = c.none-chosen.ensures ∙ c.before.before.before.slots-told.ensures.fault-is;
-      slots-are = λ z. absurd (c.before.if1.true (sym c.none-chosen.ensures ∙ z));
+      fault_is = c.none-chosen.ensures ∙ c.before.before.before.slots-told.ensures.fault_is;
+      slots_are = λ z. absurd (c.before.if1.true (sym c.none-chosen.ensures ∙ z));
       zeros = λ z. absurd (c.before.if1.true (sym c.none-chosen.ensures ∙ z));
     }
 
@@ -23,7 +23,7 @@ choose-unrefused-requires c κs = (
   c.before.before.before.before.before.before.requires.2,
   c.before.before.slots-told.ensures.known,
   sym
-      c.before.before.slots-told.ensures.fault-is ∙ c.if1.false,
+      c.before.before.slots-told.ensures.fault_is ∙ c.if1.false,
 )
 
 pub choose_spec : {M : Type 1} → statement M

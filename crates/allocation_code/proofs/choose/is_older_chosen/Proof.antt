@@ -2,15 +2,15 @@
 use mathlib.Core.Path.{refl, sym, ◌∙◌}
 use native.Mathlib.Omega.{arith}
 use borrow.Author.Rules.{rules}
-use Rattle.layout.specs.Content.{contentsOf}
-use Rattle.layout.specs.Record.{keyWith}
-use Rattle.allocation.specs.inner.Takeable.{olderThan}
-use Rattle.allocation.proofs.Tested.{Looking, looking-hit, looking-on, looking-ends}
+use Rattle.layout.specs.Content.{contents_of}
+use Rattle.layout.specs.Record.{key_with}
+use Rattle.allocation.specs.inner.Takeable.{older_than}
+use Rattle.allocation.proofs.Tested.{Looking, looking_hit, looking_on, looking_ends}
 use Rattle.allocation_code.proofs.choose.is_older_chosen.Statement.{statement}
 use Rattle.allocation_code.proofs.choose.is_older_chosen.Tie as tie
 
 abbrev invariant-loop : tie.invariant-loop
-invariant-loop image l got low high version slots j₀ j = Looking (olderThan (contentsOf l image) (keyWith low high) version) slots got j
+invariant-loop image l got low high version slots j₀ j = Looking (older_than (contents_of l image) (key_with low high) version) slots got j
 
 abbrev decreases-loop : tie.decreases-loop
 decreases-loop image l got low high version slots j₀ j = j
@@ -31,14 +31,14 @@ is-older-requires c κs =
 
 returns : tie.Need-returns invariant-loop decreases-loop
 returns c =
-    looking-hit _ _ _ _ c.before.before.before.loop.invariant c.before.before.loop-test.true (sym c.before.is-older.ensures ∙ c.if1.true)
+    looking_hit _ _ _ _ c.before.before.before.loop.invariant c.before.before.loop-test.true (sym c.before.is_older.ensures ∙ c.if1.true)
 
 loop-again : tie.Need-loop-preserved invariant-loop decreases-loop
 loop-again c =
-    looking-on _ _ _ _ c.before.before.before.loop.invariant c.before.before.loop-test.true (sym c.before.is-older.ensures ∙ c.if1.false)
+    looking_on _ _ _ _ c.before.before.before.loop.invariant c.before.before.loop-test.true (sym c.before.is_older.ensures ∙ c.if1.false)
 
 returns-2 : tie.Need-returns-2 invariant-loop decreases-loop
-returns-2 c = looking-ends _ _ _ _ c.before.loop.invariant c.loop-test.false
+returns-2 c = looking_ends _ _ _ _ c.before.loop.invariant c.loop-test.false
 
 pub is-older-chosen-spec : {M : Type 1} → statement M
 is-older-chosen-spec =

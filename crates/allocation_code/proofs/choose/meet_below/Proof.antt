@@ -1,9 +1,9 @@
 -- `allocation_code::choose::meet_below` meets its contract. Assumes nothing.
 use borrow.Author.Rules.{rules}
 use native.Mathlib.Omega.{arith}
-use Rattle.allocation.specs.Allocation.{mayTakeBelow}
-use Rattle.allocation.specs.inner.Choice.{withSlot, pastSlot}
-use Rattle.allocation.proofs.Choices.{below-taken, below-passed}
+use Rattle.allocation.specs.Allocation.{may_take_below}
+use Rattle.allocation.specs.inner.Choice.{with_slot, past_slot}
+use Rattle.allocation.proofs.Choices.{below_taken, below_passed}
 use Rattle.allocation_code.proofs.choose.meet_below.Statement.{statement}
 use Rattle.allocation_code.proofs.choose.meet_below.Tie as tie
 
@@ -37,7 +37,7 @@ mul-link c =
 shared-slice-read-link : tie.Need-shared-slice-read-link
 shared-slice-read-link c =
     let at-start = c.before.before.before.before in
-    omega (arith, at-start.requires.0.next-size, at-start.requires.1.high)
+    omega (arith, at-start.requires.0.next_size, at-start.requires.1.high)
 
 may-take-after-requires : tie.Need-may-take-after-requires
 may-take-after-requires c κs =
@@ -46,7 +46,7 @@ may-take-after-requires c κs =
       omega
           (arith, at-start.requires.0.image-size),
       record
-          { few = omega (arith, at-start.requires.1.few); inside = λ j h. omega (arith, (at-start.requires.1.chosen-in j h).1, at-start.requires.0.image-size) },
+          { few = omega (arith, at-start.requires.1.few); inside = λ j h. omega (arith, (at-start.requires.1.chosen_in j h).1, at-start.requires.0.image-size) },
     )
 
 mul-slots : tie.Need-overflow-mul-slots
@@ -76,10 +76,10 @@ add-t21 c =
     omega (arith, at-start.pre.1.few)
 
 returns : tie.Need-returns
-unfolding withSlot mayTakeBelow
+unfolding with_slot may_take_below
 returns c =
     let at-start = struct-known2-to-start c in
-    below-taken _ at-start.args.image.now at-start.args.next.now at-start.args.p _ c.before.before.may-take-after.ensures
+    below_taken _ at-start.args.image.now at-start.args.next.now at-start.args.p _ c.before.before.may-take-after.ensures
     c.before.if1.true
 
 sub-t11 : tie.Need-overflow-sub-t11
@@ -88,10 +88,10 @@ sub-t11 c =
     omega (arith, at-start.pre.1.some)
 
 returns-2 : tie.Need-returns-2
-unfolding pastSlot mayTakeBelow
+unfolding past_slot may_take_below
 returns-2 c =
     let at-start = struct-known3-to-start c in
-    below-passed _ at-start.args.image.now at-start.args.next.now at-start.args.p _ c.before.before.may-take-after.ensures
+    below_passed _ at-start.args.image.now at-start.args.next.now at-start.args.p _ c.before.before.may-take-after.ensures
     c.before.if1.false
 
 pub meet-below-spec : {M : Type 1} → statement M

@@ -4,7 +4,7 @@ use Prim.Native.Nat.{◌-◌, ◌≤◌}
 use native.Mathlib.Omega.{arith}
 use borrow.Author.Rules.{rules}
 use Rattle.allocation.specs.inner.Choice.{Clear}
-use Rattle.allocation.proofs.Looks.{clear_none, clear-one, clear-all}
+use Rattle.allocation.proofs.Looks.{clear_none, clear_one, clear_all}
 use Rattle.allocation_code.proofs.look.is_any_left.Statement.{statement}
 use Rattle.allocation_code.proofs.look.is_any_left.Tie as tie
 
@@ -31,12 +31,12 @@ is-left-requires c κs =
 loop-again : tie.Need-loop-preserved invariant-loop decreases-loop
 loop-again c = (
   let at-loop = c.before.before.before.before in
-      clear-one _ _ _ _ _ _ _ at-loop.loop.invariant.0 (c.before.is-left.ensures c.if1.false),
+      clear_one _ _ _ _ _ _ _ at-loop.loop.invariant.0 (c.before.is-left.ensures c.if1.false),
   omega (arith, c.before.before.before.loop-test.true),
 )
 
 returns-2 : tie.Need-returns-2 invariant-loop decreases-loop
-returns-2 c = λ e. clear-all _ _ _ _ _ _ _ _ c.before.loop.invariant.0 c.loop-test.false
+returns-2 c = λ e. clear_all _ _ _ _ _ _ _ _ c.before.loop.invariant.0 c.loop-test.false
 
 pub is-any-left-spec : {M : Type 1} → statement M
 is-any-left-spec =

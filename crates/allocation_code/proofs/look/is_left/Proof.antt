@@ -3,8 +3,8 @@ use mathlib.Core.Path.{sym, ◌∙◌}
 use mathlib.Core.Bool.{true≢false}
 use borrow.Author.Rules.{rules}
 use Rattle.words.specs.Word.{word}
-use Rattle.words.proofs.Laws.{word-range}
-use Rattle.allocation.proofs.Looks.{unmarked, not-above}
+use Rattle.words.proofs.Laws.{word_range}
+use Rattle.allocation.proofs.Looks.{unmarked, not_above}
 use Rattle.allocation_code.proofs.look.is_left.Statement.{statement}
 use Rattle.allocation_code.proofs.look.is_left.Tie as tie
 
@@ -14,21 +14,21 @@ returns-2 c =
     let at-start = at-is-version-above.before.before in
     λ e.
     record {
-      none-older =
+      none_older =
           unmarked _ (word at-start.args.image.now) at-start.requires.0.layout
-          (λ i. word-range _ i (λ j. (at-is-version-above.before.shared-slice-known.given j).fits)) _ _ _ _ _ at-start.requires.2
-          c.before.before.slot-low.ensures
+          (λ i. word_range _ i (λ j. (at-is-version-above.before.shared-slice-known.given j).fits)) _ _ _ _ _ at-start.requires.2
+          c.before.before.slot_low.ensures
           c.if2.true;
-      none_above = not-above _ _ _ _ at-is-version-above.is-version-above.ensures c.before.before.before.if1.false;
+      none_above = not_above _ _ _ _ at-is-version-above.is-version-above.ensures c.before.before.before.if1.false;
     }
 
 returns-3 : tie.Need-returns-3
 returns-3 c =
     let at-else1 = c.before.before.before.before in
     λ e. record {
-      none-older = sym c.is-older-left-in.ensures
+      none_older = sym c.is-older-left-in.ensures
           ∙ e;
-      none_above = not-above _ _ _ _ at-else1.before.is-version-above.ensures at-else1.if1.false;
+      none_above = not_above _ _ _ _ at-else1.before.is-version-above.ensures at-else1.if1.false;
     }
 
 pub is-left-spec : {M : Type 1} → statement M

@@ -1,7 +1,7 @@
 -- `allocation_code::look::is_older_left` meets its contract. Assumes nothing.
 use borrow.Author.Rules.{rules}
 use Rattle.words.specs.Word.{word}
-use Rattle.allocation.proofs.Looks.{left_other, left-remove}
+use Rattle.allocation.proofs.Looks.{left_other, left_remove}
 use Rattle.allocation_code.proofs.look.is_older_left.Statement.{statement}
 use Rattle.allocation_code.proofs.look.is_older_left.Tie as tie
 
@@ -15,9 +15,9 @@ returns-2 : tie.Need-returns-2
 returns-2 c =
     let at-else1 = c.before.before.before.before in
     let at-start = at-else1.before.before.before in
-    left-remove _ (word at-start.args.image.now) _ _ _ at-else1.before.slot-kind.ensures at-start.requires.0.layout at-else1.if1.false _
-    c.before.before.before.valid-version.ensures _ _ c.before.before.slot-low.ensures
-    c.before.slot-high.ensures _ c.is-older.ensures
+    left_remove _ (word at-start.args.image.now) _ _ _ at-else1.before.slot-kind.ensures at-start.requires.0.layout at-else1.if1.false _
+    c.before.before.before.valid-version.ensures _ _ c.before.before.slot_low.ensures
+    c.before.slot_high.ensures _ c.is_older.ensures
 
 pub is-older-left-spec : {M : Type 1} → statement M
 is-older-left-spec =

@@ -2,14 +2,14 @@
 use mathlib.Core.Path.{refl, sym, ◌∙◌}
 use native.Mathlib.Omega.{arith}
 use borrow.Author.Rules.{rules}
-use Rattle.layout.specs.Content.{contentsOf}
-use Rattle.allocation.specs.inner.Takeable.{olderLeft}
-use Rattle.allocation.proofs.Tested.{Looking, looking-hit, looking-on, looking-ends}
+use Rattle.layout.specs.Content.{contents_of}
+use Rattle.allocation.specs.inner.Takeable.{older_left}
+use Rattle.allocation.proofs.Tested.{Looking, looking_hit, looking_on, looking_ends}
 use Rattle.allocation_code.proofs.look.is_older_left_in.Statement.{statement}
 use Rattle.allocation_code.proofs.look.is_older_left_in.Tie as tie
 
 abbrev invariant-loop : tie.invariant-loop
-invariant-loop image l got t slots j₀ j = Looking (λ s. olderLeft (contentsOf l image) s t) slots got j
+invariant-loop image l got t slots j₀ j = Looking (λ s. older_left (contents_of l image) s t) slots got j
 
 abbrev decreases-loop : tie.decreases-loop
 decreases-loop image l got t slots j₀ j = j
@@ -32,14 +32,14 @@ is-older-left-requires c κs =
 
 returns : tie.Need-returns invariant-loop decreases-loop
 returns c =
-    looking-hit _ _ _ _ c.before.before.before.loop.invariant c.before.before.loop-test.true (sym c.before.is-older-left.ensures ∙ c.if1.true)
+    looking_hit _ _ _ _ c.before.before.before.loop.invariant c.before.before.loop-test.true (sym c.before.is-older-left.ensures ∙ c.if1.true)
 
 loop-again : tie.Need-loop-preserved invariant-loop decreases-loop
 loop-again c =
-    looking-on _ _ _ _ c.before.before.before.loop.invariant c.before.before.loop-test.true (sym c.before.is-older-left.ensures ∙ c.if1.false)
+    looking_on _ _ _ _ c.before.before.before.loop.invariant c.before.before.loop-test.true (sym c.before.is-older-left.ensures ∙ c.if1.false)
 
 returns-2 : tie.Need-returns-2 invariant-loop decreases-loop
-returns-2 c = looking-ends _ _ _ _ c.before.loop.invariant c.loop-test.false
+returns-2 c = looking_ends _ _ _ _ c.before.loop.invariant c.loop-test.false
 
 pub is-older-left-in-spec : {M : Type 1} → statement M
 is-older-left-in-spec =

@@ -5,7 +5,7 @@ use Prim.Native.Nat.{ℕ}
 use lib.Dec.{ltb}
 use borrow.Author.Rules.{rules}
 use Rattle.words.specs.Word.{word}
-use Rattle.allocation.specs.inner.Takeable.{slotVersion}
+use Rattle.allocation.specs.inner.Takeable.{slot_version}
 use Rattle.allocation_code.proofs.look.is_version_above.Statement.{statement}
 use Rattle.allocation_code.proofs.look.is_version_above.Tie as tie
 
@@ -13,7 +13,7 @@ returns : tie.Need-returns
 returns c =
     let at-start = c.before.before.before in
     ap (λ (v : ℕ). ltb at-start.args.known v) c.valid-version.ensures
-    ∙ sym (ap (λ (b : Bool). b && ltb at-start.args.known (slotVersion (word at-start.args.image.now) at-start.args.t)) c.before.if1.true)
+    ∙ sym (ap (λ (b : Bool). b && ltb at-start.args.known (slot_version (word at-start.args.image.now) at-start.args.t)) c.before.if1.true)
 
 pub is-version-above-spec : {M : Type 1} → statement M
 is-version-above-spec = tie.close (tie.spec (λ c κs. search rules) returns (λ c. search rules))

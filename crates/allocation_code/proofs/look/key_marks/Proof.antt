@@ -5,7 +5,7 @@ use lib.ListN.{length-replicate}
 use borrow.Author.Rules.{rules}
 use Rattle.words.specs.Word.{word}
 use Rattle.allocation.specs.inner.Choice.{Marked}
-use Rattle.allocation.proofs.Looks.{marked-none, marked-one}
+use Rattle.allocation.proofs.Looks.{marked_none, marked_one}
 use Rattle.allocation_code.proofs.look.key_marks.Statement.{statement}
 use Rattle.allocation_code.proofs.look.key_marks.Tie as tie
 
@@ -16,7 +16,7 @@ abbrev decreases-loop : tie.decreases-loop
 decreases-loop image got slots marks₀ j₀ marks j = got - j
 
 loop-holds : tie.Need-loop-init invariant-loop decreases-loop
-loop-holds c = (marked-none _ _ _ (length-replicate {A = ℕ} 4096 0), omega arith)
+loop-holds c = (marked_none _ _ _ (length-replicate {A = ℕ} 4096 0), omega arith)
 
 mul-slot-low : tie.Need-overflow-mul-slot-low invariant-loop decreases-loop
 mul-slot-low c = omega (arith, c.before.before.before.requires.few, c.loop-test.true)
@@ -31,7 +31,7 @@ array-write-marks : tie.Need-array-write-marks invariant-loop decreases-loop
 array-write-marks c = omega arith
 
 loop-again : tie.Need-loop-preserved invariant-loop decreases-loop
-loop-again c = (marked-one _ _ _ _ _ c.before.before.loop.invariant.0 c.slot-low.ensures, omega (arith, c.before.loop-test.true))
+loop-again c = (marked_one _ _ _ _ _ c.before.before.loop.invariant.0 c.slot_low.ensures, omega (arith, c.before.loop-test.true))
 
 returns : tie.Need-returns invariant-loop decreases-loop
 returns c = record { size = c.before.loop.invariant.0.size; each = λ i h. c.before.loop.invariant.0.each i (omega (arith, c.loop-test.false)) }

@@ -3,13 +3,13 @@ use Prim.Native.Nat.{◌-◌}
 use native.Mathlib.Omega.{arith}
 use borrow.Author.Rules.{rules}
 use Rattle.words.specs.Word.{word}
-use Rattle.allocation.specs.inner.Takeable.{slotVersion}
+use Rattle.allocation.specs.inner.Takeable.{slot_version}
 use Rattle.allocation.proofs.Tested.{Seen, seen_none, seen_one, seen_all}
 use Rattle.allocation_code.proofs.slot.highest_valid.Statement.{statement}
 use Rattle.allocation_code.proofs.slot.highest_valid.Tie as tie
 
 abbrev invariant-loop : tie.invariant-loop
-invariant-loop image n top₀ s₀ top s = Seen (slotVersion (word image)) n top s
+invariant-loop image n top₀ s₀ top s = Seen (slot_version (word image)) n top s
 
 abbrev decreases-loop : tie.decreases-loop
 decreases-loop image n top₀ s₀ top s = n - s

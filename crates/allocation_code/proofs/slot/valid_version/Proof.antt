@@ -1,6 +1,6 @@
 -- `allocation_code::slot::valid_version` meets its contract. Assumes nothing.
 use borrow.Author.Rules.{rules}
-use Rattle.allocation.proofs.Tested.{version-valid, version-empty, version-broken}
+use Rattle.allocation.proofs.Tested.{version_valid, version_empty, version_broken}
 use Rattle.allocation_code.proofs.slot.valid_version.Statement.{statement}
 use Rattle.allocation_code.proofs.slot.valid_version.Tie as tie
 
@@ -9,6 +9,6 @@ valid-version-spec =
     tie.close
     (tie.spec
     (λ c κs. search rules) (λ c. search rules) (λ c. search rules) (λ c. search rules)
-    (λ c. search version-valid)
-    (λ c. search version-empty)
-    (λ c. search version-broken))
+    (λ c. search version_valid)
+    (λ c. search version_empty)
+    (λ c. search version_broken))

@@ -5,15 +5,15 @@ use native.Mathlib.Omega.{arith}
 use borrow.Author.Rules.{rules}
 use borrow.Author.Tests.{eqb-true}
 use Rattle.words.specs.Word.{word}
-use Rattle.allocation.specs.inner.Takeable.{lowPut}
-use Rattle.allocation.proofs.Walks.{Walking, last-here, took_one, on}
-use Rattle.allocation.proofs.Takes.{taken-ahead, taken-low}
+use Rattle.allocation.specs.inner.Takeable.{low_put}
+use Rattle.allocation.proofs.Walks.{Walking, last_here, took_one, on}
+use Rattle.allocation.proofs.Takes.{taken_ahead, taken_low}
 use Rattle.allocation_code.proofs.take.is_clear_ahead.Statement.{statement}
 use Rattle.allocation_code.proofs.take.is_clear_ahead.Tie as tie
 
 abbrev invariant-loop : tie.invariant-loop
 invariant-loop image l next n first wanted known at₀ left₀ need₀ budget₀ from₀ at left need budget from =
-    Walking (lowPut l (word image) known) next n n wanted first at left need
+    Walking (low_put l (word image) known) next n n wanted first at left need
 
 abbrev decreases-loop : tie.decreases-loop
 decreases-loop image l next n first wanted known at₀ left₀ need₀ budget₀ from₀ at left need budget from = left
@@ -27,14 +27,14 @@ returns c =
     let at-start = c.before.before.before.before.before in
     λ e.
     sym
-    (taken-ahead _ at-start.args.image.now at-start.args.next.now _ _ _ at-start.requires.1 _ _ _ at-start.requires.2 c.before.few-of.ensures
+    (taken_ahead _ at-start.args.image.now at-start.args.next.now _ _ _ at-start.requires.1 _ _ _ at-start.requires.2 c.before.few-of.ensures
     c.walk-fault.ensures (eqb-true _ _ e))
     ∙ eqb-true _ _ e
 
 loop-holds : tie.Need-loop-init invariant-loop decreases-loop
 loop-holds c =
     let at-start = c.before.before.before in
-    record { place = at-start.ranges.first.fits; some-need = at-start.requires.1; rest = refl }
+    record { place = at-start.ranges.first.fits; some_need = at-start.requires.1; rest = refl }
 
 is-low-requires : tie.Need-is-low-requires invariant-loop decreases-loop
 is-low-requires c κs =
@@ -48,8 +48,8 @@ returns-5 c =
     let at-start = at-else3.before.before.before.before.before.before.before in
     λ e.
     sym
-    (taken-low _ at-start.args.image.now at-start.args.next.now _ _ _ at-start.pre.1 _ at-start.args.n _ at-start.pre.2 (omega arith)
-    (last-here _ _ _ _ _ _ _ _ _ at-else3.before.before.before.loop.inv at-else3.before.before.loop-test.taken at-else3.before.if2.left
+    (taken_low _ at-start.args.image.now at-start.args.next.now _ _ _ at-start.pre.1 _ at-start.args.n _ at-start.pre.2 (omega arith)
+    (last_here _ _ _ _ _ _ _ _ _ at-else3.before.before.before.loop.inv at-else3.before.before.loop-test.taken at-else3.before.if2.left
     at-else3.if3.left _ c.before.before.before.is-low.ensures c.before.before.if5.true c.before.if6.true _
     c.end-fault.ensures) (eqb-true _ _ e))
     ∙ eqb-true _ _ e
@@ -57,7 +57,7 @@ returns-5 c =
 sub-need : tie.Need-overflow-sub-need invariant-loop decreases-loop
 sub-need c =
     let at-loop = (is-low-to-else3 c.before.before).before.before.before in
-    at-loop.loop.inv.some-need
+    at-loop.loop.inv.some_need
 
 loop-again : tie.Need-loop-preserved invariant-loop decreases-loop
 loop-again c =

@@ -4,7 +4,7 @@ use mathlib.Core.Bool.{true≢false}
 use native.Mathlib.Omega.{arith}
 use borrow.Author.Rules.{rules}
 use borrow.Author.Tests.{not-true}
-use Rattle.allocation.proofs.Looks.{choice-inside, clear-by-pass}
+use Rattle.allocation.proofs.Looks.{choice_inside, clear_by_pass}
 use Rattle.allocation_code.proofs.take.is_clear_by.Statement.{statement}
 use Rattle.allocation_code.proofs.take.is_clear_by.Tie as tie
 
@@ -17,7 +17,7 @@ is-any-left-requires c κs =
     let at-start = choose-below-to-start c.before.before.before in (
       at-start.pre.0.layout,
       omega (arith, at-start.pre.0.image-size),
-      choice-inside at-start.args.image.now at-start.args.next.now _ _ _ _ _ at-start.pre.0.image-size at-start.pre.2
+      choice_inside at-start.args.image.now at-start.args.next.now _ _ _ _ _ at-start.pre.0.image-size at-start.pre.2
           c.before.before.before.choose-below.ensures c.before.if2.false,
     )
 
@@ -26,7 +26,7 @@ returns-3 c =
     let at-choose-below = c.before.before.before.before in
     let at-start = choose-below-to-start at-choose-below in
     λ e.
-    clear-by-pass _ at-start.args.image.now _ _ at-start.pre.3 at-start.args.next.now _ _ _ _ at-choose-below.choose-below.ensures
+    clear_by_pass _ at-start.args.image.now _ _ at-start.pre.3 at-start.args.next.now _ _ _ _ at-choose-below.choose-below.ensures
     c.before.before.if2.false (c.is-any-left.ensures (not-true _ e))
 
 pub is-clear-by-spec : {M : Type 1} → statement M

@@ -4,7 +4,7 @@ use mathlib.Core.Bool.{true≢false}
 use native.Mathlib.Omega.{arith}
 use borrow.Author.Rules.{rules}
 use borrow.Author.Tests.{eqb-true}
-use Rattle.allocation.proofs.Looks.{Ending, ending-starts, ending_here, ending-on}
+use Rattle.allocation.proofs.Looks.{Ending, ending_starts, ending_here, ending_on}
 use Rattle.allocation_code.proofs.take.is_ending.Statement.{statement}
 use Rattle.allocation_code.proofs.take.is_ending.Tie as tie
 
@@ -15,7 +15,7 @@ abbrev decreases-loop : tie.decreases-loop
 decreases-loop next n first at₀ left₀ at left = left
 
 loop-holds : tie.Need-loop-init invariant-loop decreases-loop
-loop-holds c = ending-starts _ _ _ _ c.few-of.ensures c.before.before.ranges.first.fits
+loop-holds c = ending_starts _ _ _ _ c.few-of.ensures c.before.before.ranges.first.fits
 
 returns : tie.Need-returns invariant-loop decreases-loop
 returns c = λ e. ending_here _ _ _ _ _ _ c.before.before.loop.invariant c.if1.true
@@ -34,7 +34,7 @@ shared-slice-read-at c =
 loop-again : tie.Need-loop-preserved invariant-loop decreases-loop
 loop-again c =
     let at-loop = c.before.before.before.before in
-    ending-on _ _ _ _ _ _ at-loop.loop.invariant c.before.before.before.loop-test.true c.before.before.if1.false c.before.if2.false
+    ending_on _ _ _ _ _ _ at-loop.loop.invariant c.before.before.before.loop-test.true c.before.before.if1.false c.before.if2.false
     (at-loop.before.before.shared-slice-known.given _).fits
 
 returns-3 : tie.Need-returns-3 invariant-loop decreases-loop

@@ -5,14 +5,14 @@ use native.Mathlib.Omega.{arith}
 use borrow.Author.Rules.{rules}
 use borrow.Author.Tests.{eqb-true}
 use Rattle.words.specs.Word.{word}
-use Rattle.allocation.specs.inner.Takeable.{lowPut}
-use Rattle.allocation.proofs.Walks.{Walking, last-here, on}
-use Rattle.allocation.proofs.Takes.{taken-low}
+use Rattle.allocation.specs.inner.Takeable.{low_put}
+use Rattle.allocation.proofs.Walks.{Walking, last_here, on}
+use Rattle.allocation.proofs.Takes.{taken_low}
 use Rattle.allocation_code.proofs.take.is_open.Statement.{statement}
 use Rattle.allocation_code.proofs.take.is_open.Tie as tie
 
 abbrev invariant-loop : tie.invariant-loop
-invariant-loop image l next n first known at₀ left₀ at left = Walking (lowPut l (word image) known) next n left₀ 1 first at left 1
+invariant-loop image l next n first known at₀ left₀ at left = Walking (low_put l (word image) known) next n left₀ 1 first at left 1
 
 abbrev decreases-loop : tie.decreases-loop
 decreases-loop image l next n first known at₀ left₀ at left = left
@@ -30,7 +30,7 @@ else2-to-loop at = at.before.before.before
 loop-holds : tie.Need-loop-init invariant-loop decreases-loop
 loop-holds c =
     let at-start = c.before.before.before in
-    record { place = at-start.ranges.first.fits; some-need = omega arith; rest = refl }
+    record { place = at-start.ranges.first.fits; some_need = omega arith; rest = refl }
 
 is-low-requires : tie.Need-is-low-requires invariant-loop decreases-loop
 is-low-requires c κs =
@@ -44,8 +44,8 @@ returns-3 c =
     let at-start = loop-to-start at-loop in
     λ e.
     sym
-    (taken-low _ at-start.args.image.now at-start.args.next.now _ _ 1 (omega arith) _ _ _ at-start.pre.1 at-loop.before.few-of.ensures
-    (last-here _ _ _ _ _ _ _ _ _ at-loop.loop.inv at-else2.before.before.loop-test.taken at-else2.before.if1.left at-else2.if2.left _
+    (taken_low _ at-start.args.image.now at-start.args.next.now _ _ 1 (omega arith) _ _ _ at-start.pre.1 at-loop.before.few-of.ensures
+    (last_here _ _ _ _ _ _ _ _ _ at-loop.loop.inv at-else2.before.before.loop-test.taken at-else2.before.if1.left at-else2.if2.left _
     c.before.before.is-low.ensures c.before.if3.true refl _ c.end-fault.ensures) (eqb-true _ _ e))
     ∙ eqb-true _ _ e
 

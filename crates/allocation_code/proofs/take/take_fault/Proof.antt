@@ -12,7 +12,7 @@ slots-told-requires c κs =
     (at-start.requires, omega arith, omega arith, c.newest-version.ensures)
 
 returns : tie.Need-returns
-returns c = c.slots-told.ensures.fault-is
+returns c = c.slots-told.ensures.fault_is
 
 pub take-fault-spec : {M : Type 1} → statement M
 take-fault-spec = tie.close (tie.spec newest-version-requires slots-told-requires returns)

@@ -2,15 +2,15 @@
 use mathlib.Core.Path.{refl}
 use native.Mathlib.Omega.{arith}
 use borrow.Author.Rules.{rules}
-use Rattle.layout.specs.Content.{contentsOf}
+use Rattle.layout.specs.Content.{contents_of}
 use Rattle.allocation.specs.inner.Takeable.{takeable}
-use Rattle.allocation.proofs.Walks.{Walking, at-end, above, over, last-here, took_one, on}
+use Rattle.allocation.proofs.Walks.{Walking, at-end, above, over, last_here, took_one, on}
 use Rattle.allocation_code.proofs.take.walk_fault.Statement.{statement}
 use Rattle.allocation_code.proofs.take.walk_fault.Tie as tie
 
 abbrev invariant-loop : tie.invariant-loop
 invariant-loop image l next n first most wanted top scan at₀ left₀ need₀ at left need =
-    Walking (takeable (contentsOf l image) n top scan) next n most wanted first at left need
+    Walking (takeable (contents_of l image) n top scan) next n most wanted first at left need
 
 abbrev decreases-loop : tie.decreases-loop
 decreases-loop image l next n first most wanted top scan at₀ left₀ need₀ at left need = left
@@ -18,7 +18,7 @@ decreases-loop image l next n first most wanted top scan at₀ left₀ need₀ a
 loop-holds : tie.Need-loop-init invariant-loop decreases-loop
 loop-holds c =
     let at-start = c.before.before in
-    record { place = at-start.ranges.first.fits; some-need = at-start.requires.1; rest = refl }
+    record { place = at-start.ranges.first.fits; some_need = at-start.requires.1; rest = refl }
 
 returns : tie.Need-returns invariant-loop decreases-loop
 returns c = at-end _ _ _ _ _ _ _ _ _ c.before.before.loop.invariant c.if1.true
@@ -37,14 +37,14 @@ may-take-requires c κs =
 returns-3 : tie.Need-returns-3 invariant-loop decreases-loop
 returns-3 c =
     let at-else2 = c.before.before.before.before.before in
-    last-here _ _ _ _ _ _ _ _ _ at-else2.before.before.before.loop.invariant at-else2.before.before.loop-test.true at-else2.before.if1.false
+    last_here _ _ _ _ _ _ _ _ _ at-else2.before.before.before.loop.invariant at-else2.before.before.loop-test.true at-else2.before.if1.false
     at-else2.if2.false _ c.before.before.before.may-take.ensures c.before.before.if3.true c.before.if4.true _
     c.end-fault.ensures
 
 sub-need : tie.Need-overflow-sub-need invariant-loop decreases-loop
 sub-need c =
     let at-loop = c.before.before.before.before.before.before.before in
-    at-loop.loop.invariant.some-need
+    at-loop.loop.invariant.some_need
 
 loop-again : tie.Need-loop-preserved invariant-loop decreases-loop
 loop-again c =

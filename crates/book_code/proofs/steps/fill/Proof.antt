@@ -1,11 +1,11 @@
 -- `book_code::steps::fill` meets its contract. Assumes nothing.
 use borrow.Author.Rules.{rules}
-use Rattle.interface.proofs.SetLaws.{key-alone}
+use Rattle.interface.proofs.SetLaws.{key_alone}
 use Rattle.book_code.proofs.steps.fill.Statement.{statement}
 use Rattle.book_code.proofs.steps.fill.Tie as tie
 
 returns : tie.Need-returns
-returns c = simp key-alone at c.before.before.before.before.fill-in-layout.ensures
+returns c = simp key_alone at c.before.before.before.before.fill-in-layout.ensures
 
 pub fill_spec : {M : Type 1} → statement M
 fill_spec = tie.close (tie.spec (λ c κs. search rules) (λ c. search rules) (λ c. search rules) returns)

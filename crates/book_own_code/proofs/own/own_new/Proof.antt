@@ -1,11 +1,11 @@
 -- `book_own_code::own::own_new` meets its contract. Assumes nothing.
 use borrow.Author.Rules.{rules}
-use Rattle.interface.proofs.SetLaws.{key-alone}
+use Rattle.interface.proofs.SetLaws.{key_alone}
 use Rattle.book_own_code.proofs.own.own_new.Statement.{statement}
 use Rattle.book_own_code.proofs.own.own_new.Tie as tie
 
 returns : tie.Need-returns
-returns c = simp key-alone at c.before.before.before.before.new-in-layout.ensures
+returns c = simp key_alone at c.before.before.before.before.new-in-layout.ensures
 
 pub own-new-spec : {M : Type 1} → statement M
 own-new-spec = tie.close (tie.spec (λ c κs. search rules) (λ c. search rules) (λ c. search rules) returns)

@@ -1,11 +1,11 @@
 -- `book_own_code::own::own_withdraw` meets its contract. Assumes nothing.
 use borrow.Author.Rules.{rules}
-use Rattle.interface.proofs.SetLaws.{key-alone}
+use Rattle.interface.proofs.SetLaws.{key_alone}
 use Rattle.book_own_code.proofs.own.own_withdraw.Statement.{statement}
 use Rattle.book_own_code.proofs.own.own_withdraw.Tie as tie
 
 returns : tie.Need-returns
-returns c = simp key-alone at c.before.before.before.before.withdraw-in-layout.ensures
+returns c = simp key_alone at c.before.before.before.before.withdraw-in-layout.ensures
 
 pub own-withdraw-spec : {M : Type 1} → statement M
 own-withdraw-spec = tie.close (tie.spec (λ c κs. search rules) (λ c. search rules) (λ c. search rules) returns)

@@ -1,11 +1,11 @@
 -- `book_plan_code::orders::order_bytes` meets its contract. Assumes nothing.
 use borrow.Author.Rules.{rules}
-use Rattle.book.specs.Orders.{orderBytes}
+use Rattle.book.specs.Orders.{order_bytes}
 use Rattle.book_plan_code.proofs.orders.order_bytes.Statement.{statement}
 use Rattle.book_plan_code.proofs.orders.order_bytes.Tie as tie
 
 returns : tie.Need-returns
-unfolding orderBytes
+unfolding order_bytes
 returns c =
     let at-write-word2 = c.before.before.before.before in
     let at-write-word = at-write-word2.before.before.before in

@@ -6,8 +6,8 @@ use lib.ListN.{replicate}
 use lib.Seq.{length-take-le}
 use borrow.Author.Rules.{rules}
 use Rattle.interface.specs.Set.{Layout}
-use Rattle.interface.proofs.SetLaws.{layout-numbered}
-use Rattle.book.proofs.Seeks.{room-zeros}
+use Rattle.interface.proofs.SetLaws.{layout_numbered}
+use Rattle.book.proofs.Seeks.{room_zeros}
 use Rattle.book_plan_code.proofs.plans.seek_order.Statement.{statement}
 use Rattle.book_plan_code.proofs.plans.seek_order.Tie as tie
 
@@ -21,29 +21,29 @@ out-to-start at = at.before.before.before.before.before
 mul-size : tie.Need-overflow-mul-size
 mul-size c =
     let at-start = layout-number-to-start c in
-    omega (arith, (subst Layout (sym c.layout-number.ensures) (layout-numbered at-start.args.wide)).high)
+    omega (arith, (subst Layout (sym c.layout-number.ensures) (layout_numbered at-start.args.wide)).high)
 
 sub-size : tie.Need-overflow-sub-size
 sub-size c =
     let at-start = layout-number-to-start c in
-    omega (arith, (subst Layout (sym c.layout-number.ensures) (layout-numbered at-start.args.wide)).high)
+    omega (arith, (subst Layout (sym c.layout-number.ensures) (layout_numbered at-start.args.wide)).high)
 
 array-borrow : tie.Need-array-borrow-prefix-out
 array-borrow c =
     let at-start = layout-number-to-start c in
-    omega (arith, (subst Layout (sym c.layout-number.ensures) (layout-numbered at-start.args.wide)).low)
+    omega (arith, (subst Layout (sym c.layout-number.ensures) (layout_numbered at-start.args.wide)).low)
 
 slice-aggregate : tie.Need-slice-aggregate-seek-with
 slice-aggregate c =
     let at-start = out-to-start c in
     sym
     (length-take-le _ (replicate {A = ℕ} 80 0)
-    (omega (arith, (subst Layout (sym c.before.layout-number.ensures) (layout-numbered at-start.args.wide)).low)))
+    (omega (arith, (subst Layout (sym c.before.layout-number.ensures) (layout_numbered at-start.args.wide)).low)))
 
 seek-with-requires : tie.Need-seek-with-requires
 seek-with-requires c κs =
     let at-start = out-to-start c in
-    rw c.before.layout-number.ensures (room-zeros _ (layout-numbered at-start.args.wide))
+    rw c.before.layout-number.ensures (room_zeros _ (layout_numbered at-start.args.wide))
 
 pub seek-order-spec : {M : Type 1} → statement M
 seek-order-spec =

@@ -1,11 +1,11 @@
 -- `book_plan_code::plans::seek_with` meets its contract. Assumes nothing.
 use mathlib.Core.Path.{ap, ◌∙◌}
 use borrow.Author.Rules.{rules}
-use Rattle.interface.specs.Set.{getSays, ReadOnlyResult}
-use Rattle.interface.proofs.SetLaws.{layout-numbered}
-use Rattle.book.specs.Steps.{none-there, soughtIn}
-use Rattle.book.specs.inner.Courses.{seekSays, soughtNumber}
-use Rattle.book.proofs.Seeks.{seek-given, room-left}
+use Rattle.interface.specs.Set.{get_says, ReadOnlyResult}
+use Rattle.interface.proofs.SetLaws.{layout_numbered}
+use Rattle.book.specs.Steps.{none_there, sought_in}
+use Rattle.book.specs.inner.Courses.{seek_says, sought_number}
+use Rattle.book.proofs.Seeks.{seek_given, room_left}
 use Rattle.book_plan_code.proofs.plans.seek_with.Statement.{statement}
 use Rattle.book_plan_code.proofs.plans.seek_with.Tie as tie
 
@@ -20,30 +20,30 @@ order-in-requires : tie.Need-order-in-requires
 order-in-requires c κs =
     let at-get-in-layout = got-to-get-in-layout c.before.before in
     let at-start = get-in-layout-to-start at-get-in-layout in
-    room-left _ (layout-numbered at-start.args.wide) _ at-start.pre _ at-get-in-layout.get-in-layout.kept.1.1.1.1.1.1.0
+    room_left _ (layout_numbered at-start.args.wide) _ at-start.pre _ at-get-in-layout.get-in-layout.kept.1.1.1.1.1.1.0
 
 returns : tie.Need-returns
-unfolding getSays
+unfolding get_says
 returns c =
     let at-get-in-layout = got-to-get-in-layout c.before.before.before in
     let at-start = get-in-layout-to-start at-get-in-layout in
-    c.order-in.ensures ∙ seek-given _ _ _ _ _ _ at-start.pre _ at-get-in-layout.get-in-layout.ensures.0 _
-    (ap getSays c.before.before.before.got.given.1)
+    c.order-in.ensures ∙ seek_given _ _ _ _ _ _ at-start.pre _ at-get-in-layout.get-in-layout.ensures.0 _
+    (ap get_says c.before.before.before.got.given.1)
 
 returns-2 : tie.Need-returns-2
-unfolding getSays seekSays soughtIn
+unfolding get_says seek_says sought_in
 returns-2 c =
     let at-get-in-layout = c.before.before.before.before in
     let at-start = get-in-layout-to-start at-get-in-layout in
-    seek-given _ _ _ _ _ _ at-start.pre _ at-get-in-layout.get-in-layout.ensures.0 _ (ap getSays c.enum_told.given.1)
+    seek_given _ _ _ _ _ _ at-start.pre _ at-get-in-layout.get-in-layout.ensures.0 _ (ap get_says c.enum_told.given.1)
 
 returns-3 : tie.Need-returns-3
-unfolding getSays seekSays soughtIn soughtNumber
+unfolding get_says seek_says sought_in sought_number
 returns-3 c =
     let at-get-in-layout = c.before.before.before.before.before.before in
     let at-start = get-in-layout-to-start at-get-in-layout in
-    ap none-there c.sought-number.ensures ∙ seek-given _ _ _ _ _ _ at-start.pre _ at-get-in-layout.get-in-layout.ensures.0 _
-    (ap getSays c.before.before.got2.given.1)
+    ap none_there c.sought-number.ensures ∙ seek_given _ _ _ _ _ _ at-start.pre _ at-get-in-layout.get-in-layout.ensures.0 _
+    (ap get_says c.before.before.got2.given.1)
 
 pub seek-with-spec : {M : Type 1} → statement M
 seek-with-spec =

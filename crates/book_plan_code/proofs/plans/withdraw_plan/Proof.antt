@@ -1,17 +1,17 @@
 -- `book_plan_code::plans::withdraw_plan` meets its contract. Assumes nothing.
 use mathlib.Core.Path.{sym, ap, ◌∙◌}
 use borrow.Author.Rules.{rules}
-use Rattle.book.specs.inner.Courses.{seekSays, planSays, withdrawCourse}
+use Rattle.book.specs.inner.Courses.{seek_says, plan_says, withdraw_course}
 use Rattle.book_plan_code.proofs.plans.withdraw_plan.Statement.{statement}
 use Rattle.book_plan_code.proofs.plans.withdraw_plan.Tie as tie
 
 returns : tie.Need-returns
-unfolding seekSays planSays withdrawCourse
-returns c = ap withdrawCourse (sym (ap seekSays c.enum_told.given.1) ∙ c.before.before.seek-order.ensures)
+unfolding seek_says plan_says withdraw_course
+returns c = ap withdraw_course (sym (ap seek_says c.enum_told.given.1) ∙ c.before.before.seek-order.ensures)
 
 returns-2 : tie.Need-returns-2
-unfolding seekSays planSays withdrawCourse
-returns-2 c = ap withdrawCourse (sym (ap seekSays c.before.sought.given.1) ∙ c.before.before.before.seek-order.ensures)
+unfolding seek_says plan_says withdraw_course
+returns-2 c = ap withdraw_course (sym (ap seek_says c.before.sought.given.1) ∙ c.before.before.before.seek-order.ensures)
 
 pub withdraw-plan-spec : {M : Type 1} → statement M
 withdraw-plan-spec =

@@ -1,6 +1,6 @@
 -- `calls_basket_code::basket::basket` meets its contract. Assumes nothing.
 use borrow.Author.Rules.{rules}
-use Rattle.calls.specs.Basket.{basketResult}
+use Rattle.calls.specs.Basket.{basket_result}
 use Rattle.calls_basket_code.proofs.basket.basket.Statement.{statement}
 use Rattle.calls_basket_code.proofs.basket.basket.Tie as tie
 

@@ -1,7 +1,7 @@
 -- `calls_basket_code::basket::basket_in` meets its contract. Assumes nothing.
 use mathlib.Core.Path.{refl}
 use borrow.Author.Rules.{rules}
-use Rattle.calls.proofs.BasketEnds.{basket-refused, ready-plan, basket-taken}
+use Rattle.calls.proofs.BasketEnds.{basket_refused, ready_plan, basket_taken}
 use Rattle.calls_basket_code.proofs.basket.basket_in.Statement.{statement}
 use Rattle.calls_basket_code.proofs.basket.basket_in.Tie as tie
 
@@ -15,14 +15,14 @@ slice-known8-to-store-basket at = at.before.before.before.before.before.before.b
 returns : tie.Need-returns
 returns c =
     let at-start = plan-to-start c.before.before in
-    basket-refused _ _ _ _ _ at-start.args.state _ _ _ at-start.args.count _ (c.before.before.plan.ensures.fault-is _) c.if1.true
+    basket_refused _ _ _ _ _ at-start.args.state _ _ _ at-start.args.count _ (c.before.before.plan.ensures.fault_is _) c.if1.true
 
 store-basket-requires : tie.Need-store-basket-requires
 store-basket-requires c κs =
     let at-else1 = c.before.before.before.before.before.before.before in
     let at-start = plan-to-start at-else1.before.before in (
       at-start.pre,
-      ready-plan _ _ _ _ _ _ at-start.args.state _ _ _ _ _ at-else1.if1.false
+      ready_plan _ _ _ _ _ _ at-start.args.state _ _ _ _ _ at-else1.if1.false
           (at-else1.before.before.plan.ensures.ready at-else1.if1.false),
     )
 
@@ -43,7 +43,7 @@ returns-2 c =
     let at-store-basket = slice-known8-to-store-basket c in
     let at-else1 = at-store-basket.before.before.before.before.before.before.before.before in
     let at-start = plan-to-start at-else1.before.before in
-    basket-taken _ _ _ _ _ at-start.args.state _ _ _ _ _ _ (at-else1.before.before.plan.ensures.fault-is _) at-else1.if1.left _
+    basket_taken _ _ _ _ _ at-start.args.state _ _ _ _ _ _ (at-else1.before.before.plan.ensures.fault_is _) at-else1.if1.left _
     at-store-basket.store-basket.ensures
 
 pub basket-in-spec : {M : Type 1} → statement M

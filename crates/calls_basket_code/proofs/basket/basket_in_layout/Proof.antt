@@ -1,6 +1,6 @@
 -- `calls_basket_code::basket::basket_in_layout` meets its contract. Assumes nothing.
 use borrow.Author.Rules.{rules}
-use Rattle.layout.proofs.Layouts.{layout-numbered}
+use Rattle.layout.proofs.Layouts.{layout_numbered}
 use Rattle.calls_basket_code.proofs.basket.basket_in_layout.Statement.{statement}
 use Rattle.calls_basket_code.proofs.basket.basket_in_layout.Tie as tie
 
@@ -12,7 +12,7 @@ basket-in-requires : tie.Need-basket-in-requires
 basket-in-requires c κs =
     let at-layout-number = c.before.before.before.before in
     let at-start = at-layout-number.before.before.before.before.before.before in
-    rw at-layout-number.layout-number.ensures (layout-numbered at-start.args.wide)
+    rw at-layout-number.layout-number.ensures (layout_numbered at-start.args.wide)
 
 same_length : tie.Need-same-length
 same_length c =

@@ -1,7 +1,7 @@
 -- `calls_basket_code::basket::store_basket` meets its contract. Assumes nothing.
 use native.Mathlib.Omega.{arith}
 use borrow.Author.Rules.{rules}
-use Rattle.calls.proofs.BasketEnds.{ready_at, takens-inside, items-inside, stores-inside, fits-live, fits-removes, basket-written}
+use Rattle.calls.proofs.BasketEnds.{ready_at, takens_inside, items_inside, stores_inside, fits_live, fits_removes, basket_written}
 use Rattle.calls_basket_code.proofs.basket.store_basket.Statement.{statement}
 use Rattle.calls_basket_code.proofs.basket.store_basket.Tie as tie
 
@@ -21,30 +21,30 @@ struct-known4-to-fill-basket-stores at = at.before.before.before.before.before.b
 change-index-requires : tie.Need-change-index-requires
 change-index-requires c κs =
     let at-start = slot-count-to-start c.before.before.before in
-    let w = ready_at _ _ _ _ _ at-start.args.state _ _ _ _ _ _ c.before.before.before.slot-count.ensures at-start.pre.1 in
-    (takens-inside _ _ _ _ _ _ at-start.args.state _ _ _ _ _ w, items-inside _ _ _ _ _ _ at-start.args.state _ _ _ _ _ w)
+    let w = ready_at _ _ _ _ _ at-start.args.state _ _ _ _ _ _ c.before.before.before.slot_count.ensures at-start.pre.1 in
+    (takens_inside _ _ _ _ _ _ at-start.args.state _ _ _ _ _ w, items_inside _ _ _ _ _ _ at-start.args.state _ _ _ _ _ w)
 
 fill-basket-stores-requires : tie.Need-fill-basket-stores-requires
 fill-basket-stores-requires c κs =
     let at-start = slot-count-to-start (change-index-to-totals-of c.before.before.before.before.before.before).before in
-    stores-inside _ _ _ _ _ _ at-start.args.state _ _ _ _ _ at-start.pre.1 at-start.pre.0
+    stores_inside _ _ _ _ _ _ at-start.args.state _ _ _ _ _ at-start.pre.1 at-start.pre.0
 
 add-t31 : tie.Need-overflow-add-t31
 add-t31 c =
     let at-totals-of = change-index-to-totals-of (fill-basket-stores-to-change-index c.before.before.before.before.before.before) in
     let at-start = slot-count-to-start at-totals-of.before in
-    omega (arith, fits-live _ _ _ _ _ _ at-start.args.state _ _ _ _ _ at-start.pre.1 _ (at-totals-of.totals-of.ensures _))
+    omega (arith, fits_live _ _ _ _ _ _ at-start.args.state _ _ _ _ _ at-start.pre.1 _ (at-totals-of.totals-of.ensures _))
 
 sub-t32 : tie.Need-overflow-sub-t32
 sub-t32 c =
     let at-totals-of = change-index-to-totals-of (fill-basket-stores-to-change-index c.before.before.before.before.before.before.before) in
     let at-start = slot-count-to-start at-totals-of.before in
-    omega (arith, fits-removes _ _ _ _ _ _ at-start.args.state _ _ _ _ _ at-start.pre.1 _ (at-totals-of.totals-of.ensures _))
+    omega (arith, fits_removes _ _ _ _ _ _ at-start.args.state _ _ _ _ _ at-start.pre.1 _ (at-totals-of.totals-of.ensures _))
 
 add-t33 : tie.Need-overflow-add-t33
 add-t33 c =
     let at-start = slot-count-to-start (change-index-to-totals-of (fill-basket-stores-to-change-index (struct-known4-to-fill-basket-stores c))).before in
-    omega (arith, at-start.pre.1.version-fits)
+    omega (arith, at-start.pre.1.version_fits)
 
 returns : tie.Need-returns
 returns c =
@@ -53,9 +53,9 @@ returns c =
     let at-totals-of = change-index-to-totals-of at-change-index in
     let at-slot-count = at-totals-of.before in
     let at-start = slot-count-to-start at-slot-count in
-    basket-written _ _ _ _ _ _ at-start.args.state _ _ _ _ _
-    (ready_at _ _ _ _ _ at-start.args.state _ _ _ _ _ _ at-slot-count.slot-count.ensures at-start.pre.1) _ _ _ _ _ _ _ _ _
-    at-start.good.1.1.1.1.1.1.1.1.1.0.1.0.1 at-slot-count.slot-count.ensures (at-change-index.change-index.ensures _)
+    basket_written _ _ _ _ _ _ at-start.args.state _ _ _ _ _
+    (ready_at _ _ _ _ _ at-start.args.state _ _ _ _ _ _ at-slot-count.slot_count.ensures at-start.pre.1) _ _ _ _ _ _ _ _ _
+    at-start.good.1.1.1.1.1.1.1.1.1.0.1.0.1 at-slot-count.slot_count.ensures (at-change-index.change-index.ensures _)
     at-fill-basket-stores.fill-basket-stores.ensures.0
     at-fill-basket-stores.fill-basket-stores.ensures.1 (at-totals-of.totals-of.ensures _)
 

@@ -1,7 +1,7 @@
 -- `calls_basket_list_code::list::basket_list` meets its contract: the walk at 1, family 0.
 use borrow.Author.Rules.{rules}
 use lib.Dec.{lit<}
-use Rattle.calls_basket_list_code.proofs.Walk.{basket-listed}
+use Rattle.calls_basket_list_code.proofs.Walk.{basket_listed}
 use Rattle.calls_basket_list_code.specs.contracts.list.basket_list.Key.{name}
 use Rattle.calls_basket_list_code.proofs.list.basket_list.Statement.{statement}
 use Rattle.calls_basket_list_code.proofs.list.basket_list.Code as code
@@ -9,5 +9,5 @@ use Rattle.calls_basket_list_code.proofs.list.basket_list.Code as code
 pub basket-list-spec : {M : Type 1} → statement M
 unfolding code.routine
 basket-list-spec 𝓤 𝓛 𝓜 𝓡 =
-    basket-listed 1 0 (search rules) (lit< tt) 𝓛 𝓜 𝓡 code.env name (code.unfolded 𝓤 𝓛.H 𝓜 𝓡) code.calls-calls-basket-list-code::made::basket-made
+    basket_listed 1 0 (search rules) (lit< tt) 𝓛 𝓜 𝓡 code.env name (code.unfolded 𝓤 𝓛.H 𝓜 𝓡) code.calls-calls-basket-list-code::made::basket-made
     code.calls-stores-list-code::list::fill-store-list

@@ -2,7 +2,7 @@
 use Prim.Native.Nat.{◌-◌}
 use native.Mathlib.Omega.{arith}
 use Rattle.calls.specs.BasketItems.{item_at}
-use Rattle.calls.proofs.BasketChecks.{Pairing, pairs_start, pair-hit, pair-on, pair_end}
+use Rattle.calls.proofs.BasketChecks.{Pairing, pairs_start, pair_hit, pair_on, pair_end}
 use borrow.Author.Rules.{rules}
 use Rattle.calls_basket_plan_code.proofs.given.any_twice.Statement.{statement}
 use Rattle.calls_basket_plan_code.proofs.given.any_twice.Tie as tie
@@ -36,7 +36,7 @@ returns : tie.Need-returns invariant-loop decreases-loop
 unfolding item_at
 returns c =
     let in-loop = c.before.before.before.before in
-    pair-hit _ _ _ _ in-loop.before.loop.invariant in-loop.loop-test.true _ c.before.before.high-in.ensures _ c.before.is_among.ensures
+    pair_hit _ _ _ _ in-loop.before.loop.invariant in-loop.loop-test.true _ c.before.before.high-in.ensures _ c.before.is_among.ensures
     c.if1.true
 
 loop-less : tie.Need-loop-smaller invariant-loop decreases-loop
@@ -46,7 +46,7 @@ loop-again : tie.Need-loop-preserved invariant-loop decreases-loop
 unfolding item_at
 loop-again c =
     let in-loop = else1-to-in-loop c in
-    pair-on _ _ _ _ in-loop.before.loop.inv in-loop.loop-test.taken _ c.before.before.high-in.ensures _ c.before.is_among.ensures
+    pair_on _ _ _ _ in-loop.before.loop.inv in-loop.loop-test.taken _ c.before.before.high-in.ensures _ c.before.is_among.ensures
     c.if1.false
 
 returns-2 : tie.Need-returns-2 invariant-loop decreases-loop

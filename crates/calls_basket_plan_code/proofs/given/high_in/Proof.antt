@@ -1,11 +1,11 @@
 -- `calls_basket_plan_code::given::high_in` meets its contract. Assumes nothing.
 use Rattle.prelude.proofs.Tests.{tests}
-use Rattle.calls.specs.BasketItems.{highIn}
+use Rattle.calls.specs.BasketItems.{high_in}
 use Rattle.calls_basket_plan_code.proofs.given.high_in.Statement.{statement}
 use Rattle.calls_basket_plan_code.proofs.given.high_in.Tie as tie
 
 pub high-in-spec : {M : Type 1} → statement M
-unfolding highIn
+unfolding high_in
 high-in-spec =
     tie.close
     (tie.spec

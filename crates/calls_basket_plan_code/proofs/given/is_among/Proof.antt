@@ -1,21 +1,21 @@
 -- `calls_basket_plan_code::given::is_among` meets its contract. Assumes nothing.
 use Prim.Native.Nat.{◌-◌}
 use native.Mathlib.Omega.{arith}
-use Rattle.layout.specs.Record.{keyWith}
+use Rattle.layout.specs.Record.{key_with}
 use Rattle.calls.specs.BasketItems.{item_at}
-use Rattle.calls.proofs.BasketChecks.{Seeking, seek-starts, seek_hit, seek-on, seek-end}
+use Rattle.calls.proofs.BasketChecks.{Seeking, seek_starts, seek_hit, seek_on, seek_end}
 use borrow.Author.Rules.{rules}
 use Rattle.calls_basket_plan_code.proofs.given.is_among.Statement.{statement}
 use Rattle.calls_basket_plan_code.proofs.given.is_among.Tie as tie
 
 abbrev invariant-loop : tie.invariant-loop
-invariant-loop l from count low high items j₀ j = Seeking l items count (keyWith low high) from j
+invariant-loop l from count low high items j₀ j = Seeking l items count (key_with low high) from j
 
 abbrev decreases-loop : tie.decreases-loop
 decreases-loop l from count low high items j₀ j = count - j
 
 loop-holds : tie.Need-loop-init invariant-loop decreases-loop
-loop-holds c = seek-starts _ _ _ _ _
+loop-holds c = seek_starts _ _ _ _ _
 
 mul-item : tie.Need-overflow-mul-item invariant-loop decreases-loop
 mul-item c = omega (arith, c.loop-test.true, c.before.before.requires)
@@ -39,10 +39,10 @@ loop-again : tie.Need-loop-preserved invariant-loop decreases-loop
 unfolding item_at
 loop-again c =
     let at-loop = c.before.before.before.before in
-    seek-on _ _ _ _ _ _ at-loop.loop.invariant c.before.before.before.loop-test.true _ c.before.item-has-key.ensures c.if1.false
+    seek_on _ _ _ _ _ _ at-loop.loop.invariant c.before.before.before.loop-test.true _ c.before.item-has-key.ensures c.if1.false
 
 returns-2 : tie.Need-returns-2 invariant-loop decreases-loop
-returns-2 c = seek-end _ _ _ _ _ _ c.before.loop.invariant c.loop-test.false
+returns-2 c = seek_end _ _ _ _ _ _ c.before.loop.invariant c.loop-test.false
 
 pub is-among-spec : {M : Type 1} → statement M
 is-among-spec =

@@ -2,7 +2,7 @@
 use Prim.Native.Nat.{◌-◌}
 use native.Mathlib.Omega.{arith}
 use Rattle.calls.specs.BasketItems.{item_at}
-use Rattle.calls.proofs.BasketChecks.{Acting, acting-starts, acting-stops, acting-on, acting-ends}
+use Rattle.calls.proofs.BasketChecks.{Acting, acting_starts, acting_stops, acting_on, acting_ends}
 use borrow.Author.Rules.{rules}
 use Rattle.calls_basket_plan_code.proofs.olds.actions_fault.Statement.{statement}
 use Rattle.calls_basket_plan_code.proofs.olds.actions_fault.Tie as tie
@@ -14,7 +14,7 @@ abbrev decreases-loop : tie.decreases-loop
 decreases-loop count items olds i₀ i = count - i
 
 loop-holds : tie.Need-loop-init invariant-loop decreases-loop
-loop-holds c = acting-starts _ _ _
+loop-holds c = acting_starts _ _ _
 
 mul-item : tie.Need-overflow-mul-item invariant-loop decreases-loop
 mul-item c = omega (arith, c.loop-test.true, c.before.before.requires)
@@ -32,7 +32,7 @@ returns : tie.Need-returns invariant-loop decreases-loop
 unfolding item_at
 returns c =
     let at-loop = c.before.before.before.before in
-    acting-stops _ _ _ _ at-loop.loop.invariant c.before.before.before.loop-test.true _ c.before.action-fault.ensures c.if1.true
+    acting_stops _ _ _ _ at-loop.loop.invariant c.before.before.before.loop-test.true _ c.before.action-fault.ensures c.if1.true
 
 add-i : tie.Need-overflow-add-i invariant-loop decreases-loop
 add-i c = omega (arith, c.before.before.before.loop-test.true, c.before.before.before.before.before.requires)
@@ -44,10 +44,10 @@ loop-again : tie.Need-loop-preserved invariant-loop decreases-loop
 unfolding item_at
 loop-again c =
     let at-loop = c.before.before.before.before in
-    acting-on _ _ _ _ at-loop.loop.invariant c.before.before.before.loop-test.true _ c.before.action-fault.ensures c.if1.false
+    acting_on _ _ _ _ at-loop.loop.invariant c.before.before.before.loop-test.true _ c.before.action-fault.ensures c.if1.false
 
 returns-2 : tie.Need-returns-2 invariant-loop decreases-loop
-returns-2 c = acting-ends _ _ _ _ c.before.loop.invariant c.loop-test.false
+returns-2 c = acting_ends _ _ _ _ c.before.loop.invariant c.loop-test.false
 
 pub actions-fault-spec : {M : Type 1} → statement M
 actions-fault-spec =

@@ -3,7 +3,7 @@ use Prim.Native.Nat.{◌-◌}
 use native.Mathlib.Omega.{arith}
 use Rattle.index.specs.Walk.{search as following}
 use Rattle.calls.specs.BasketItems.{item_at}
-use Rattle.calls.proofs.BasketChecks.{Finding, finding-starts, finding-stops, finding-on, finding-ends}
+use Rattle.calls.proofs.BasketChecks.{Finding, finding_starts, finding_stops, finding_on, finding_ends}
 use borrow.Author.Rules.{rules}
 use Rattle.calls_basket_plan_code.proofs.olds.find_olds.Statement.{statement}
 use Rattle.calls_basket_plan_code.proofs.olds.find_olds.Tie as tie
@@ -15,7 +15,7 @@ abbrev decreases-loop : tie.decreases-loop
 decreases-loop image l heads next n count items slots₀ i₀ slots i = count - i
 
 loop-holds : tie.Need-loop-init invariant-loop decreases-loop
-loop-holds c = finding-starts _ _ _ _
+loop-holds c = finding_starts _ _ _ _
 
 -- the points that the proof uses, each by the way from the one after it
 abbrev loop-to-start : tie.At-loop invariant-loop decreases-loop → tie.Start invariant-loop decreases-loop
@@ -36,7 +36,7 @@ returns : tie.Need-returns invariant-loop decreases-loop
 unfolding item_at
 returns c =
     let in-loop = c.before.before.before.before.before in
-    finding-stops _ _ _ _ _ _ in-loop.before.loop.invariant in-loop.loop-test.true _ c.before.before.before.high-in.ensures _
+    finding_stops _ _ _ _ _ _ in-loop.before.loop.invariant in-loop.loop-test.true _ c.before.before.before.high-in.ensures _
     c.before.before.find-key.ensures _ c.before.chain-fault.ensures c.if1.true _
 
 mul-slots : tie.Need-overflow-mul-slots invariant-loop decreases-loop
@@ -65,12 +65,12 @@ unfolding item_at
 loop-again c =
     let at-high-in = c.before.before.before.before in
     let at-start = loop-to-start at-high-in.before.before.before in
-    finding-on _ _ _ _ _ _ at-high-in.before.before.before.loop.invariant at-high-in.before.before.loop-test.true _ at-high-in.high-in.ensures _
+    finding_on _ _ _ _ _ _ at-high-in.before.before.before.loop.invariant at-high-in.before.before.loop-test.true _ at-high-in.high-in.ensures _
     c.before.before.before.find-key.ensures _ c.before.before.chain-fault.ensures at-start.pre.2 c.before.if1.false _
     c.old-in.ensures
 
 returns-2 : tie.Need-returns-2 invariant-loop decreases-loop
-returns-2 c = finding-ends _ _ _ _ _ _ c.before.loop.invariant c.loop-test.false
+returns-2 c = finding_ends _ _ _ _ _ _ c.before.loop.invariant c.loop-test.false
 
 pub find-olds-spec : {M : Type 1} → statement M
 find-olds-spec =

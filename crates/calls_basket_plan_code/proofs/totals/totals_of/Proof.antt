@@ -2,7 +2,7 @@
 use Prim.Native.Nat.{◌-◌}
 use native.Mathlib.Omega.{arith}
 use Rattle.calls.specs.BasketItems.{item_at}
-use Rattle.calls.proofs.BasketChecks.{Counting, counting-starts, counting-on, counting-ends, adds_one, takes_one}
+use Rattle.calls.proofs.BasketChecks.{Counting, counting_starts, counting_on, counting_ends, adds_one, takes_one}
 use borrow.Author.Rules.{rules}
 use Rattle.calls_basket_plan_code.proofs.totals.totals_of.Statement.{statement}
 use Rattle.calls_basket_plan_code.proofs.totals.totals_of.Tie as tie
@@ -14,7 +14,7 @@ abbrev decreases-loop : tie.decreases-loop
 decreases-loop count items inserts₀ removes₀ i₀ inserts removes i = count - i
 
 loop-holds : tie.Need-loop-init invariant-loop decreases-loop
-loop-holds c = counting-starts _ _
+loop-holds c = counting_starts _ _
 
 mul-item : tie.Need-overflow-mul-item invariant-loop decreases-loop
 mul-item c = omega (arith, c.loop-test.true, c.before.before.requires)
@@ -25,12 +25,12 @@ array-copy-out-item c = omega (arith, c.loop-test.true, c.before.before.requires
 add-inserts : tie.Need-overflow-add-inserts invariant-loop decreases-loop
 add-inserts c =
     let at-start = c.before.before.before.before in
-    omega (arith, c.before.before.loop-test.true, at-start.requires, c.before.before.before.loop.invariant.inserts-few, adds_one _ _ c.inserts-by.ensures)
+    omega (arith, c.before.before.loop-test.true, at-start.requires, c.before.before.before.loop.invariant.inserts_few, adds_one _ _ c.inserts-by.ensures)
 
 add-removes : tie.Need-overflow-add-removes invariant-loop decreases-loop
 add-removes c =
     let at-loop = c.before.before.before.before in
-    omega (arith, c.before.before.before.loop-test.true, at-loop.before.requires, at-loop.loop.invariant.removes-few, takes_one _ _ c.removes-by.ensures)
+    omega (arith, c.before.before.before.loop-test.true, at-loop.before.requires, at-loop.loop.invariant.removes_few, takes_one _ _ c.removes-by.ensures)
 
 add-i : tie.Need-overflow-add-i invariant-loop decreases-loop
 add-i c = omega (arith, c.before.before.before.loop-test.true, c.before.before.before.before.before.requires)
@@ -42,10 +42,10 @@ loop-again : tie.Need-loop-preserved invariant-loop decreases-loop
 unfolding item_at
 loop-again c =
     let at-loop = c.before.before.before.before in
-    counting-on _ _ _ _ _ at-loop.loop.invariant c.before.before.before.loop-test.true _ _ c.before.inserts-by.ensures c.removes-by.ensures
+    counting_on _ _ _ _ _ at-loop.loop.invariant c.before.before.before.loop-test.true _ _ c.before.inserts-by.ensures c.removes-by.ensures
 
 returns : tie.Need-returns invariant-loop decreases-loop
-returns c = counting-ends _ _ _ _ _ c.before.loop.invariant c.loop-test.false
+returns c = counting_ends _ _ _ _ _ c.before.loop.invariant c.loop-test.false
 
 pub totals-of-spec : {M : Type 1} → statement M
 totals-of-spec =

@@ -3,7 +3,7 @@ use Prim.Native.Nat.{◌-◌, ◌<◌}
 use native.Mathlib.Omega.{arith}
 use mathlib.Core.Path.{◌∙◌}
 use Rattle.calls.specs.BasketItems.{item_at}
-use Rattle.calls.proofs.BasketLinks.{Linking, linking-starts, linking-on, linking-ends}
+use Rattle.calls.proofs.BasketLinks.{Linking, linking_starts, linking_on, linking_ends}
 use Rattle.calls_basket_write_code.proofs.links.link_all.Statement.{statement}
 use Rattle.calls_basket_write_code.proofs.links.link_all.Tie as tie
 
@@ -31,7 +31,7 @@ item_in : (at : tie.In-loop invariant-loop decreases-loop) → at.before.loop.j 
 item_in at = omega (arith, at.loop-test.true, (loop-to-start at.before).pre.few)
 
 loop-holds : tie.Need-loop-init invariant-loop decreases-loop
-loop-holds c = linking-starts _ _ _ _ _ _ _ _ c.before.before.requires
+loop-holds c = linking_starts _ _ _ _ _ _ _ _ c.before.before.requires
 
 mul-item : tie.Need-overflow-mul-item invariant-loop decreases-loop
 mul-item c = omega (arith, item_in c)
@@ -42,7 +42,7 @@ array-copy-out-item c = item_in c
 head-of-requires : tie.Need-head-of-requires invariant-loop decreases-loop
 head-of-requires c κs =
     let at-start = loop-to-start c.before.before in
-    omega (arith, at-start.pre.some-head, c.before.before.loop.invariant.heads-size)
+    omega (arith, at-start.pre.some_head, c.before.before.loop.invariant.heads_size)
 
 mul-link-item : tie.Need-overflow-mul-link-item invariant-loop decreases-loop
 mul-link-item c = omega (arith, item_in c.before.before.before.before)
@@ -63,10 +63,10 @@ link-item-requires c κs =
     let at-start = loop-to-start at-loop in
     record {
       head_in = c.before.before.head_of.ensures.0;
-      size = at-loop.loop.invariant.next-size ∙ at-start.pre.size;
-      last-in = at-loop.loop.invariant.last-in;
+      size = at-loop.loop.invariant.next_size ∙ at-start.pre.size;
+      last_in = at-loop.loop.invariant.last_in;
       old-in = at-start.pre.old-in _ in-loop.loop-test.true;
-      slot-in = at-start.pre.slot-in _ in-loop.loop-test.true;
+      slot_in = at-start.pre.slot_in _ in-loop.loop-test.true;
     }
 
 add-j : tie.Need-overflow-add-j invariant-loop decreases-loop
@@ -81,20 +81,20 @@ loop-again c =
     let at-link-item = slice-known4-to-link-item c in
     let at-head-of = link-item-to-head-of at-link-item in
     let at-start = loop-to-start at-head-of.before.before.before in
-    linking-on _ _ _ _ _ _ _ _ at-start.pre _ _ _ _ at-head-of.before.before.before.loop.inv at-head-of.before.before.loop-test.taken _
+    linking_on _ _ _ _ _ _ _ _ at-start.pre _ _ _ _ at-head-of.before.before.before.loop.inv at-head-of.before.before.loop-test.taken _
     at-head-of.head_of.ensures.1 _ _ _ at-link-item.link-item.kept.0 at-link-item.link-item.kept.1.0
     at-link-item.link-item.ensures
 
 same_length : tie.Need-same-length invariant-loop decreases-loop
-same_length c = c.before.loop.invariant.heads-size
+same_length c = c.before.loop.invariant.heads_size
 
 same-length-2 : tie.Need-same-length-2 invariant-loop decreases-loop
-same-length-2 c = c.before.loop.invariant.next-size
+same-length-2 c = c.before.loop.invariant.next_size
 
 returns : tie.Need-returns invariant-loop decreases-loop
 returns c =
     let at-start = loop-to-start c.before in
-    linking-ends _ _ _ _ _ _ _ _ at-start.pre _ _ _ _ c.before.loop.invariant c.loop-test.false
+    linking_ends _ _ _ _ _ _ _ _ at-start.pre _ _ _ _ c.before.loop.invariant c.loop-test.false
 
 pub link-all-spec : {M : Type 1} → statement M
 link-all-spec =

@@ -3,22 +3,22 @@ use mathlib.Core.Path.{◌≡◌}
 use Prim.Native.Nat.{◌+◌, ◌-◌, ◌*◌, ◌≤◌, ◌<◌}
 use native.Mathlib.Omega.{arith}
 use lib.ListN.{length}
-use Rattle.table.specs.Complete.{sizeFieldFor}
+use Rattle.table.specs.Complete.{size_field_for}
 use Rattle.calls.specs.BasketItems.{item_at}
-use Rattle.calls.proofs.BasketStores.{value_of, size-within, Storing, storing-starts, storing-on, recordable, storing-ends}
+use Rattle.calls.proofs.BasketStores.{value_of, size_within, Storing, storing_starts, storing_on, recordable, storing_ends}
 use borrow.Author.Rules.{rules}
 use Rattle.calls_basket_write_code.proofs.records.fill_basket_stores.Statement.{statement}
 use Rattle.calls_basket_write_code.proofs.records.fill_basket_stores.Tie as tie
 
 abbrev invariant-loop : tie.invariant-loop
 invariant-loop image l version count at₀ words₀ items values slots number j₀ at words j =
-    (number ≡ sizeFieldFor count) × Storing l image version count items values slots at₀ words₀ at words j
+    (number ≡ size_field_for count) × Storing l image version count items values slots at₀ words₀ at words j
 
 abbrev decreases-loop : tie.decreases-loop
 decreases-loop image l version count at₀ words₀ items values slots number j₀ at words j = count - j
 
 loop-holds : tie.Need-loop-init invariant-loop decreases-loop
-loop-holds c = (c.number-for.ensures, storing-starts _ _ _ _ _ _ _ _ _)
+loop-holds c = (c.number-for.ensures, storing_starts _ _ _ _ _ _ _ _ _)
 
 -- the points that the proof uses, each by the way from the one after it
 abbrev in-loop-to-start : tie.In-loop invariant-loop decreases-loop → tie.Start invariant-loop decreases-loop
@@ -45,7 +45,7 @@ value_in : (at : tie.After-size-by invariant-loop decreases-loop) → 80 * (size
 unfolding item_at
 value_in at =
     let in-loop = size-by-to-in-loop at in
-    size-within _ _ _ _ _ _ _ _ (in-loop-to-start in-loop).pre _ in-loop.loop-test.taken _ at.size-by.ensures
+    size_within _ _ _ _ _ _ _ _ (in-loop-to-start in-loop).pre _ in-loop.loop-test.taken _ at.size-by.ensures
 
 values-size : (at : tie.Start invariant-loop decreases-loop) → length at.args.t6 ≡ 640
 values-size at = search (rules, at.well-formed.1.1.1.1.1.0)
@@ -89,10 +89,10 @@ record-stores-at-requires c κs =
     let pre = (in-loop-to-start in-loop).pre in (
       recordable _ _ _ _ _ _ _ _ _ _ _ _ inv.1 pre in-loop.loop-test.taken _ _ _ at-size-by.before.kind-by.ensures inv.0
           (value_of _ _ _ _ at-size-by.size-by.ensures (omega (arith, value_in at-size-by, values-size (in-loop-to-start in-loop)))),
-      pre.slot-fits _ in-loop.loop-test.taken,
-      pre.slot-in _ in-loop.loop-test.taken,
+      pre.slot_fits _ in-loop.loop-test.taken,
+      pre.slot_in _ in-loop.loop-test.taken,
       omega (arith, inv.1.fill.ats.size, pre.at_room, in-loop.loop-test.taken),
-      omega (arith, inv.1.fill.vals.size, pre.words-room, in-loop.loop-test.taken),
+      omega (arith, inv.1.fill.vals.size, pre.words_room, in-loop.loop-test.taken),
     )
 
 add-j : tie.Need-overflow-add-j invariant-loop decreases-loop
@@ -109,7 +109,7 @@ loop-again c =
     let in-loop = size-by-to-in-loop at-size-by in
     let inv = in-loop.before.loop.inv in (
       inv.0,
-      storing-on _ _ _ _ _ _ _ _ _ _ _ _ inv.1 (in-loop-to-start in-loop).pre in-loop.loop-test.taken _ _ _ _ _ _
+      storing_on _ _ _ _ _ _ _ _ _ _ _ _ inv.1 (in-loop-to-start in-loop).pre in-loop.loop-test.taken _ _ _ _ _ _
           at-size-by.before.before.high-in.ensures at-size-by.before.kind-by.ensures inv.0
           (value_of _ _ _ _ at-size-by.size-by.ensures (omega (arith, value_in at-size-by, values-size (in-loop-to-start in-loop))))
           at-record.record-stores-at.ensures.0.0 at-record.record-stores-at.ensures.0.1,
@@ -124,7 +124,7 @@ same-length-2 c = c.before.loop.invariant.1.fill.vals.size
 returns : tie.Need-returns invariant-loop decreases-loop
 returns c =
     let at-start = c.before.before.before.before.before.before in
-    storing-ends _ _ _ _ _ _ _ _ _ _ _ _ c.before.loop.invariant.1 at-start.requires c.loop-test.false
+    storing_ends _ _ _ _ _ _ _ _ _ _ _ _ c.before.loop.invariant.1 at-start.requires c.loop-test.false
 
 pub fill-basket-stores-spec : {M : Type 1} → statement M
 fill-basket-stores-spec =

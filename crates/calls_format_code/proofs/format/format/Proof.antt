@@ -1,8 +1,8 @@
 -- `calls_format_code::format::format` meets its contract. Assumes nothing.
 use native.Mathlib.Omega.{arith}
 use borrow.Author.Rules.{rules}
-use Rattle.calls.specs.Format.{formatSays}
-use Rattle.calls.proofs.Formats.{some-slots, format-refused, format-done, format-room, format-fits}
+use Rattle.calls.specs.Format.{format_says}
+use Rattle.calls.proofs.Formats.{some_slots, format_refused, format_done, format_room, format_fits}
 use Rattle.calls_format_code.proofs.format.format.Statement.{statement}
 use Rattle.calls_format_code.proofs.format.format.Tie as tie
 
@@ -14,17 +14,17 @@ abbrev slice-known4-to-write-word : tie.After-slice-known4 → tie.After-write-w
 slice-known4-to-write-word at = at.before.before.before.before.before.before
 
 returns : tie.Need-returns
-unfolding formatSays
-returns c = format-refused _ _ _ c.before.before.slot-count.ensures _ c.before.format-fault.ensures c.if1.true
+unfolding format_says
+returns c = format_refused _ _ _ c.before.before.slot_count.ensures _ c.before.format-fault.ensures c.if1.true
 
 write-word-requires : tie.Need-write-word-requires
 write-word-requires c κs =
     let at-else1 = c.before.before.before.before.before in
     omega (
       arith,
-      c.before.before.before.zero-bytes.auto.0,
-      format-room _ _ at-else1.before.before.slot-count.ensures
-          (some-slots _ _ _ at-else1.before.format-fault.ensures at-else1.if1.false),
+      c.before.before.before.zero_bytes.auto.0,
+      format_room _ _ at-else1.before.before.slot_count.ensures
+          (some_slots _ _ _ at-else1.before.format-fault.ensures at-else1.if1.false),
     )
 
 write-word-requires-2 : tie.Need-write-word-requires-2
@@ -34,28 +34,28 @@ write-word-requires-2 c κs =
     omega (
       arith,
       c.before.before.before.write_word.auto.0,
-      at-zero-bytes.zero-bytes.kept.0,
-      format-room _ _ at-slot-count.slot-count.ensures
-          (some-slots _ _ _ at-zero-bytes.before.before.before.format-fault.ensures at-zero-bytes.before.before.if1.left),
+      at-zero-bytes.zero_bytes.kept.0,
+      format_room _ _ at-slot-count.slot_count.ensures
+          (some_slots _ _ _ at-zero-bytes.before.before.before.format-fault.ensures at-zero-bytes.before.before.if1.left),
     )
 
 cast-t15 : tie.Need-overflow-cast-t15
 cast-t15 c =
     let at-else1 = (write-word-to-zero-bytes (slice-known4-to-write-word c)).before.before in
     record {
-      fits = format-fits _ _ at-else1.before.before.slot-count.ensures
-          (some-slots _ _ _ at-else1.before.format-fault.ensures at-else1.if1.left);
+      fits = format_fits _ _ at-else1.before.before.slot_count.ensures
+          (some_slots _ _ _ at-else1.before.format-fault.ensures at-else1.if1.left);
     }
 
 returns-2 : tie.Need-returns-2
-unfolding formatSays
+unfolding format_says
 returns-2 c =
     let at-write-word = slice-known4-to-write-word c in
     let at-zero-bytes = write-word-to-zero-bytes at-write-word in
     let at-slot-count = at-zero-bytes.before.before.before.before in
-    format-done _ _ _ at-slot-count.slot-count.ensures _ at-zero-bytes.before.before.before.format-fault.ensures
+    format_done _ _ _ at-slot-count.slot_count.ensures _ at-zero-bytes.before.before.before.format-fault.ensures
     at-zero-bytes.before.before.if1.left _ _ _
-    at-zero-bytes.zero-bytes.ensures at-write-word.write_word.ensures c.before.before.write-word2.ensures
+    at-zero-bytes.zero_bytes.ensures at-write-word.write_word.ensures c.before.before.write-word2.ensures
 
 pub format-spec : {M : Type 1} → statement M
 format-spec =

@@ -3,7 +3,7 @@ use Prim.Native.Nat.{◌-◌}
 use native.Mathlib.Omega.{arith}
 use lib.ListN.{length}
 use borrow.Author.Rules.{rules}
-use Rattle.prelude.proofs.Fills.{Clearing, clear-start, clear-turn, clear-end}
+use Rattle.prelude.proofs.Fills.{Clearing, clear_start, clear_turn, clear_end}
 use Rattle.calls_format_code.proofs.format.zero_bytes.Statement.{statement}
 use Rattle.calls_format_code.proofs.format.zero_bytes.Tie as tie
 
@@ -19,8 +19,8 @@ zero-bytes-spec =
     (tie.spec
     invariant-loop
     decreases-loop
-    (λ c. clear-start _)
+    (λ c. clear_start _)
     (λ c. search rules) (λ c. search rules) (λ c. search rules)
-    (λ c. clear-turn _ _ _ (omega arith) c.before.loop.invariant)
+    (λ c. clear_turn _ _ _ (omega arith) c.before.loop.invariant)
     (λ c. c.before.loop.invariant.size)
-    (λ c. clear-end _ _ _ (omega arith) c.before.loop.invariant))
+    (λ c. clear_end _ _ _ (omega arith) c.before.loop.invariant))

@@ -6,11 +6,11 @@ use native.Mathlib.Omega.{arith}
 use borrow.Author.Rules.{rules}
 use Rattle.prelude.specs.Answer.{Answer}
 use Rattle.index.proofs.LookedUp.{allowed_at}
-use Rattle.calls.specs.Compared.{keyCompared}
+use Rattle.calls.specs.Compared.{key_compared}
 use Rattle.calls.specs.Result.{ReadOnlyResult}
-use Rattle.calls.specs.Moved.{getMoved}
-use Rattle.calls.specs.Get.{getSays}
-use Rattle.calls.proofs.Results.{refused-count, allowed-count, get_refused, get-held, get-not-held}
+use Rattle.calls.specs.Moved.{get_moved}
+use Rattle.calls.specs.Get.{get_says}
+use Rattle.calls.proofs.Results.{refused_count, allowed_count, get_refused, get_held, get_not_held}
 use Rattle.calls_get_code.proofs.get.get_in.Statement.{statement}
 use Rattle.calls_get_code.proofs.get.get_in.Tie as tie
 
@@ -31,33 +31,33 @@ copy-value-requires c κs =
     (ready.0, omega (arith, c.before.slot-length.ensures, ready.1), omega (arith, c.before.slot-length.ensures, ready.2))
 
 returns : tie.Need-returns
-unfolding getSays keyCompared getMoved
+unfolding get_says key_compared get_moved
 returns c = (
   let at-get-lookup = c.before.before.before in
-      compared-by (refused-count at-get-lookup.get-lookup.ensures _ _ c.before.lookup.given.1)
+      compared-by (refused_count at-get-lookup.get-lookup.ensures _ _ c.before.lookup.given.1)
       (get_refused _ _ _ _ _ _ _ at-get-lookup.get-lookup.ensures _ _ c.before.lookup.given.1),
   refl,
 )
 
 returns-2 : tie.Need-returns-2
-unfolding getSays keyCompared getMoved
+unfolding get_says key_compared get_moved
 returns-2 c = (
   let at-lookup2 = c.before.before.before in
       let at-get-lookup = at-lookup2.before.before in
-      compared-by (allowed-count at-get-lookup.get-lookup.ensures _ _ at-lookup2.lookup2.given.1)
-      (get-not-held _ _ _ _ _ _ _ at-get-lookup.get-lookup.ensures _ _ (allowed_at at-lookup2.lookup2.given.1 c.enum_told.given.1)),
+      compared-by (allowed_count at-get-lookup.get-lookup.ensures _ _ at-lookup2.lookup2.given.1)
+      (get_not_held _ _ _ _ _ _ _ at-get-lookup.get-lookup.ensures _ _ (allowed_at at-lookup2.lookup2.given.1 c.enum_told.given.1)),
   refl,
 )
 
 returns-3 : tie.Need-returns-3
-unfolding getSays keyCompared getMoved
+unfolding get_says key_compared get_moved
 returns-3 c =
     let at-copy-value = c.before.before in
     let at_place = at-copy-value.before.before.before.before in
     let at-lookup2 = at_place.before.before.before in
     let at-get-lookup = at-lookup2.before.before in (
-      compared-by (allowed-count at-get-lookup.get-lookup.ensures _ _ at-lookup2.lookup2.given.1)
-          (get-held _ _ _ _ _ _ _ at-get-lookup.get-lookup.ensures _ _ _ (allowed_at at-lookup2.lookup2.given.1 at_place.place.given.1) _
+      compared-by (allowed_count at-get-lookup.get-lookup.ensures _ _ at-lookup2.lookup2.given.1)
+          (get_held _ _ _ _ _ _ _ at-get-lookup.get-lookup.ensures _ _ _ (allowed_at at-lookup2.lookup2.given.1 at_place.place.given.1) _
           at-copy-value.before.before.slot-length.ensures _
           at-copy-value.copy-value.ensures.1),
       at-copy-value.copy-value.ensures.0,

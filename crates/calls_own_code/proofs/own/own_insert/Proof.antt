@@ -1,6 +1,6 @@
 -- `calls_own_code::own::own_insert` meets its contract. Assumes nothing.
 use borrow.Author.Rules.{rules}
-use Rattle.calls.proofs.Changes.{key-alone}
+use Rattle.calls.proofs.Changes.{key_alone}
 use Rattle.calls_own_code.proofs.own.own_insert.Statement.{statement}
 use Rattle.calls_own_code.proofs.own.own_insert.Tie as tie
 
@@ -11,19 +11,19 @@ slice-known4-to-insert-in at = at.before.before.before.before
 same_length : tie.Need-same-length
 same_length c =
     let at-insert-in = slice-known4-to-insert-in c in
-    at-insert-in.insert-in.kept.1.1.0
+    at-insert-in.insert_in.kept.1.1.0
 
 same-length-2 : tie.Need-same-length-2
 same-length-2 c =
     let at-insert-in = slice-known4-to-insert-in c in
-    at-insert-in.insert-in.kept.1.1.1.0
+    at-insert-in.insert_in.kept.1.1.1.0
 
 returns : tie.Need-returns
 returns c =
     let at-insert-in = slice-known4-to-insert-in c in
     let at-lent = at-insert-in.before.before.before.before in
     let at-start = at-lent.before.before.before.before.before in
-    (rw (key-alone at-start.args.key) at at-insert-in.insert-in.ensures.0, at-insert-in.insert-in.ensures.1)
+    (rw (key_alone at-start.args.key) at at-insert-in.insert_in.ensures.0, at-insert-in.insert_in.ensures.1)
 
 pub own-insert-spec : {M : Type 1} → statement M
 own-insert-spec = tie.close (tie.spec (λ c κs. search rules) same_length same-length-2 returns)

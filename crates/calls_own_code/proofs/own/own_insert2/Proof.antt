@@ -10,6 +10,6 @@ slice-known4-to-insert-in at = at.before.before.before.before
 pub own-insert2-spec : {M : Type 1} → statement M
 own-insert2-spec =
     tie.close
-    (tie.spec (λ c κs. search rules) (λ c. let at-insert-in = slice-known4-to-insert-in c in at-insert-in.insert-in.kept.1.1.0)
-    (λ c. let at-insert-in = slice-known4-to-insert-in c in at-insert-in.insert-in.kept.1.1.1.0)
-    (λ c. let at-insert-in = slice-known4-to-insert-in c in at-insert-in.insert-in.ensures))
+    (tie.spec (λ c κs. search rules) (λ c. let at-insert-in = slice-known4-to-insert-in c in at-insert-in.insert_in.kept.1.1.0)
+    (λ c. let at-insert-in = slice-known4-to-insert-in c in at-insert-in.insert_in.kept.1.1.1.0)
+    (λ c. let at-insert-in = slice-known4-to-insert-in c in at-insert-in.insert_in.ensures))

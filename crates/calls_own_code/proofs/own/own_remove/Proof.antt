@@ -1,6 +1,6 @@
 -- `calls_own_code::own::own_remove` meets its contract. Assumes nothing.
 use borrow.Author.Rules.{rules}
-use Rattle.calls.proofs.Changes.{key-alone}
+use Rattle.calls.proofs.Changes.{key_alone}
 use Rattle.calls_own_code.proofs.own.own_remove.Statement.{statement}
 use Rattle.calls_own_code.proofs.own.own_remove.Tie as tie
 
@@ -23,7 +23,7 @@ returns c =
     let at-remove-in = slice-known4-to-remove-in c in
     let at-lent = at-remove-in.before.before.before.before in
     let at-start = at-lent.before.before.before.before in
-    (rw (key-alone at-start.args.key) at at-remove-in.remove-in.ensures.0, at-remove-in.remove-in.ensures.1)
+    (rw (key_alone at-start.args.key) at at-remove-in.remove-in.ensures.0, at-remove-in.remove-in.ensures.1)
 
 pub own-remove-spec : {M : Type 1} → statement M
 own-remove-spec = tie.close (tie.spec (λ c κs. search rules) same_length same-length-2 returns)

@@ -1,6 +1,6 @@
 -- `calls_write_code::write::replace` meets its contract. Assumes nothing.
 use borrow.Author.Rules.{rules}
-use Rattle.calls.proofs.Changes.{key-alone}
+use Rattle.calls.proofs.Changes.{key_alone}
 use Rattle.calls_write_code.proofs.write.replace.Statement.{statement}
 use Rattle.calls_write_code.proofs.write.replace.Tie as tie
 
@@ -23,7 +23,7 @@ returns c =
     let at-replace-in = slice-known4-to-replace-in c in
     let at-lent = at-replace-in.before.before.before.before in
     let at-start = at-lent.before.before.before.before.before in
-    (rw (key-alone at-start.args.key) at at-replace-in.replace-in.ensures.0, at-replace-in.replace-in.ensures.1)
+    (rw (key_alone at-start.args.key) at at-replace-in.replace-in.ensures.0, at-replace-in.replace-in.ensures.1)
 
 pub replace_spec : {M : Type 1} → statement M
 replace_spec = tie.close (tie.spec (λ c κs. search rules) same_length same-length-2 returns)

@@ -3,11 +3,11 @@ use mathlib.Core.Path.{refl, ap, ◌∙◌}
 use native.Mathlib.Omega.{arith}
 use borrow.Author.Rules.{rules}
 use Rattle.index.proofs.LookedUp.{allowed_at}
-use Rattle.calls.specs.Compared.{keyCompared}
-use Rattle.calls.specs.Change.{changeSays, buffersAfter}
-use Rattle.calls.proofs.Changes.{inside, some-head, changed-end}
-use Rattle.calls.proofs.Results.{refused-count, allowed-count, remove-refused, remove-held, remove-not-held}
-use Rattle.calls_write_layout_code.proofs.Ends.{kept-end, changed-by, removable}
+use Rattle.calls.specs.Compared.{key_compared}
+use Rattle.calls.specs.Change.{change_says, buffers_after}
+use Rattle.calls.proofs.Changes.{inside, some_head, changed_end}
+use Rattle.calls.proofs.Results.{refused_count, allowed_count, remove_refused, remove-held, remove_not_held}
+use Rattle.calls_write_layout_code.proofs.Ends.{kept_end, changed_by, removable}
 use Rattle.calls_write_layout_code.proofs.remove.remove_in.Statement.{statement}
 use Rattle.calls_write_layout_code.proofs.remove.remove_in.Tie as tie
 
@@ -29,7 +29,7 @@ head-of-requires c κs =
     let at-lookup2 = place-to-lookup2 c.before in
     let at-remove-lookup = at-lookup2.before.before in
     let at-start = remove-lookup-to-start at-remove-lookup in
-    some-head at-start.args.image.now at-start.args.heads.now at-start.args.next.now at-start.args.state _ _ _
+    some_head at-start.args.image.now at-start.args.heads.now at-start.args.next.now at-start.args.state _ _ _
     (removable _ _ _ _ _ at-remove-lookup.remove-lookup.ensures.ready (allowed_at at-lookup2.lookup2.given.1 c.before.place.given.1)).0
 
 remove-held-requires : tie.Need-remove-held-requires
@@ -54,24 +54,24 @@ remove-stores-requires c κs =
     let at-start = remove-lookup-to-start at-remove-lookup in
     let w = (removable _ _ _ _ _ at-remove-lookup.remove-lookup.ensures.ready
     (allowed_at at-lookup2.lookup2.given.1 at_place.place.given.1)).0 in
-    (at-start.pre, omega arith, w.index.version-fits, w.slot-fits, w.slot-in)
+    (at-start.pre, omega arith, w.index.version_fits, w.slot_fits, w.slot_in)
 
 returns : tie.Need-returns
-unfolding changeSays keyCompared
+unfolding change_says key_compared
 returns c = (
   let at-remove-lookup = c.before.before.before in
-      kept-end (refused-count at-remove-lookup.remove-lookup.ensures _ _ c.before.lookup.given.1) _ _ _
-      (remove-refused _ _ _ _ _ _ at-remove-lookup.remove-lookup.ensures _ _ c.before.lookup.given.1),
+      kept_end (refused_count at-remove-lookup.remove-lookup.ensures _ _ c.before.lookup.given.1) _ _ _
+      (remove_refused _ _ _ _ _ _ at-remove-lookup.remove-lookup.ensures _ _ c.before.lookup.given.1),
   refl,
 )
 
 returns-2 : tie.Need-returns-2
-unfolding changeSays keyCompared
+unfolding change_says key_compared
 returns-2 c = (
   let at-lookup2 = c.before.before.before in
       let at-remove-lookup = at-lookup2.before.before in
-      kept-end (allowed-count at-remove-lookup.remove-lookup.ensures _ _ at-lookup2.lookup2.given.1) _ _ _
-      (remove-not-held _ _ _ _ _ _ at-remove-lookup.remove-lookup.ensures _ _ (allowed_at at-lookup2.lookup2.given.1 c.enum_told.given.1)),
+      kept_end (allowed_count at-remove-lookup.remove-lookup.ensures _ _ at-lookup2.lookup2.given.1) _ _ _
+      (remove_not_held _ _ _ _ _ _ at-remove-lookup.remove-lookup.ensures _ _ (allowed_at at-lookup2.lookup2.given.1 c.enum_told.given.1)),
   refl,
 )
 
@@ -86,16 +86,16 @@ same-length-6 c =
     at-remove-held.remove-held.kept.1.0
 
 returns-3 : tie.Need-returns-3
-unfolding changeSays keyCompared
+unfolding change_says key_compared
 returns-3 c = (
   let at-remove-held = remove-stores-to-remove-held c in
       let at-head-of = remove-held-to-head-of at-remove-held in
       let at-lookup2 = place-to-lookup2 at-head-of.before.before in
       let at-remove-lookup = at-lookup2.before.before in
       let at-start = remove-lookup-to-start at-remove-lookup in
-      changed-end _ _ _ _ _ _ _ _ _ _ c.remove-stores.ensures _ _ _ _ _ at-remove-held.remove-held.ensures
-      ∙ ap (buffersAfter _)
-      (changed-by (allowed-count at-remove-lookup.remove-lookup.ensures _ _ at-lookup2.lookup2.given.1) _ _ _ _ _ _ _ _ _
+      changed_end _ _ _ _ _ _ _ _ _ _ c.remove-stores.ensures _ _ _ _ _ at-remove-held.remove-held.ensures
+      ∙ ap (buffers_after _)
+      (changed_by (allowed_count at-remove-lookup.remove-lookup.ensures _ _ at-lookup2.lookup2.given.1) _ _ _ _ _ _ _ _ _
       (remove-held _ _ _ _ _ _ at-remove-lookup.remove-lookup.ensures _ _ _ _
       (allowed_at at-lookup2.lookup2.given.1 at-head-of.before.before.place.given.1) (at-head-of.head_of.ensures.1 at-start.args.high))),
   refl,

@@ -1,6 +1,6 @@
 -- `calls_write_layout_code::remove::remove_in_layout` meets its contract. Assumes nothing.
 use borrow.Author.Rules.{rules}
-use Rattle.layout.proofs.Layouts.{layout-numbered}
+use Rattle.layout.proofs.Layouts.{layout_numbered}
 use Rattle.calls_write_layout_code.proofs.remove.remove_in_layout.Statement.{statement}
 use Rattle.calls_write_layout_code.proofs.remove.remove_in_layout.Tie as tie
 
@@ -15,7 +15,7 @@ remove-in-requires : tie.Need-remove-in-requires
 remove-in-requires c κs =
     let at-layout-number = c.before.before.before.before in
     let at-start = layout-number-to-start at-layout-number in
-    rw at-layout-number.layout-number.ensures (layout-numbered at-start.args.wide)
+    rw at-layout-number.layout-number.ensures (layout_numbered at-start.args.wide)
 
 same_length : tie.Need-same-length
 same_length c =

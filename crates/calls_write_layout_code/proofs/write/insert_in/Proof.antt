@@ -2,11 +2,11 @@
 use mathlib.Core.Path.{refl, ap, ◌∙◌}
 use native.Mathlib.Omega.{arith}
 use borrow.Author.Rules.{rules}
-use Rattle.calls.specs.Moved.{writeMoved}
-use Rattle.calls.specs.Change.{changeSays, buffersAfter, writeCompared}
-use Rattle.calls.proofs.Changes.{allowed, allowed-inside, changed-end}
-use Rattle.calls.proofs.Results.{refused-count, allowed-count, write-refused, write_allowed}
-use Rattle.calls_write_layout_code.proofs.Ends.{kept-end, changed-by}
+use Rattle.calls.specs.Moved.{write_moved}
+use Rattle.calls.specs.Change.{change_says, buffers_after, write_compared}
+use Rattle.calls.proofs.Changes.{allowed, allowed_inside, changed_end}
+use Rattle.calls.proofs.Results.{refused_count, allowed_count, write_refused, write_allowed}
+use Rattle.calls_write_layout_code.proofs.Ends.{kept_end, changed_by}
 use Rattle.calls_write_layout_code.proofs.write.insert_in.Statement.{statement}
 use Rattle.calls_write_layout_code.proofs.write.insert_in.Tie as tie
 
@@ -21,13 +21,13 @@ abbrev record-stores-to-write-place : tie.After-record-stores → tie.After-writ
 record-stores-to-write-place at = at.before.before.before.before.before.before.before
 
 head-of-requires : tie.Need-head-of-requires
-head-of-requires c κs = (allowed _ _ _ _ _ _ _ c.before.before.before.insert-lookup.ensures.ready c.before.lookup2.given.1).some-head
+head-of-requires c κs = (allowed _ _ _ _ _ _ _ c.before.before.before.insert-lookup.ensures.ready c.before.lookup2.given.1).some_head
 
 write-place-requires : tie.Need-write-place-requires
 write-place-requires c κs =
     let at-lookup2 = c.before.before.before.before in
     let at-start = insert-lookup-to-start at-lookup2.before.before in
-    allowed-inside _ _ _ _ _ _ _ at-lookup2.before.before.insert-lookup.ensures.ready at-lookup2.lookup2.given.1 _
+    allowed_inside _ _ _ _ _ _ _ at-lookup2.before.before.insert-lookup.ensures.ready at-lookup2.lookup2.given.1 _
     (c.before.before.head_of.ensures.1 at-start.args.high)
 
 record-stores-requires : tie.Need-record-stores-requires
@@ -35,28 +35,28 @@ record-stores-requires c κs =
     let at-lookup2 = (write-place-to-head-of c.before.before.before.before.before.before).before.before in
     let at-start = insert-lookup-to-start at-lookup2.before.before in
     let ready = (allowed _ _ _ _ _ _ _ at-lookup2.before.before.insert-lookup.ensures.ready at-lookup2.lookup2.given.1).recordable in
-    (record { layout = at-start.pre; kind_fits = omega arith; number_fits = omega arith; size = ready.0; version-fits = ready.1 }, ready.2, ready.3)
+    (record { layout = at-start.pre; kind_fits = omega arith; number_fits = omega arith; size = ready.0; version_fits = ready.1 }, ready.2, ready.3)
 
 returns : tie.Need-returns
-unfolding changeSays writeCompared writeMoved
+unfolding change_says write_compared write_moved
 returns c = (
   let at-insert-lookup = c.before.before.before in
-      kept-end (refused-count at-insert-lookup.insert-lookup.ensures _ _ c.before.lookup.given.1) _ _ _
-      (write-refused _ _ _ _ _ _ _ _ at-insert-lookup.insert-lookup.ensures _ _ c.before.lookup.given.1),
+      kept_end (refused_count at-insert-lookup.insert-lookup.ensures _ _ c.before.lookup.given.1) _ _ _
+      (write_refused _ _ _ _ _ _ _ _ at-insert-lookup.insert-lookup.ensures _ _ c.before.lookup.given.1),
   refl,
 )
 
 returns-2 : tie.Need-returns-2
-unfolding changeSays writeCompared writeMoved
+unfolding change_says write_compared write_moved
 returns-2 c = (
   let at-write-place = record-stores-to-write-place c in
       let at-head-of = write-place-to-head-of at-write-place in
       let at-lookup2 = at-head-of.before.before in
       let at-insert-lookup = at-lookup2.before.before in
       let at-start = insert-lookup-to-start at-insert-lookup in
-      changed-end _ _ _ _ _ _ _ _ _ _ c.record-stores.ensures.0 _ _ _ _ _ at-write-place.write-place.ensures
-      ∙ ap (buffersAfter _)
-      (changed-by (allowed-count at-insert-lookup.insert-lookup.ensures _ _ at-lookup2.lookup2.given.1) _ _ _ _ _ _ _ _ _
+      changed_end _ _ _ _ _ _ _ _ _ _ c.record-stores.ensures.0 _ _ _ _ _ at-write-place.write-place.ensures
+      ∙ ap (buffers_after _)
+      (changed_by (allowed_count at-insert-lookup.insert-lookup.ensures _ _ at-lookup2.lookup2.given.1) _ _ _ _ _ _ _ _ _
       (write_allowed _ _ _ _ _ _ _ _ at-insert-lookup.insert-lookup.ensures _ _ _ at-lookup2.lookup2.given.1
       (at-head-of.head_of.ensures.1 at-start.args.high))),
   c.record-stores.ensures.1,

@@ -1,6 +1,6 @@
 -- `calls_write_layout_code::write::write_in_layout` meets its contract. Assumes nothing.
 use borrow.Author.Rules.{rules}
-use Rattle.layout.proofs.Layouts.{layout-numbered}
+use Rattle.layout.proofs.Layouts.{layout_numbered}
 use Rattle.calls_write_layout_code.proofs.write.write_in_layout.Statement.{statement}
 use Rattle.calls_write_layout_code.proofs.write.write_in_layout.Tie as tie
 
@@ -18,30 +18,30 @@ insert-in-requires : tie.Need-insert-in-requires
 insert-in-requires c κs =
     let at-layout-number = c.before.before.before.before.before.before in
     let at-start = layout-number-to-start at-layout-number in
-    rw at-layout-number.layout-number.ensures (layout-numbered at-start.args.wide)
+    rw at-layout-number.layout-number.ensures (layout_numbered at-start.args.wide)
 
 replace-in-requires : tie.Need-replace-in-requires
 replace-in-requires c κs =
     let at-layout-number = c.before.before.before.before.before.before in
     let at-start = layout-number-to-start at-layout-number in
-    rw at-layout-number.layout-number.ensures (layout-numbered at-start.args.wide)
+    rw at-layout-number.layout-number.ensures (layout_numbered at-start.args.wide)
 
 same_length : tie.Need-same-length
 same_length c =
     let at-insert-in = c.before.before.before.before in
-    at-insert-in.insert-in.auto.1.1.0
+    at-insert-in.insert_in.auto.1.1.0
 
 same-length-2 : tie.Need-same-length-2
 same-length-2 c =
     let at-insert-in = c.before.before.before.before in
-    at-insert-in.insert-in.auto.1.1.1.0
+    at-insert-in.insert_in.auto.1.1.1.0
 
 returns : tie.Need-returns
 returns c =
     let at-insert-in = c.before.before.before.before in
     let at-enum-told = insert-in-to-enum-told at-insert-in in
     rw at-enum-told.enum_told.given.1
-    (rw at-enum-told.before.before.layout-number.ensures at at-insert-in.insert-in.ensures)
+    (rw at-enum-told.before.before.layout-number.ensures at at-insert-in.insert_in.ensures)
 
 same-length-3 : tie.Need-same-length-3
 same-length-3 c =

@@ -3,7 +3,7 @@ use mathlib.Core.Path.{refl, sym, ◌∙◌}
 use mathlib.Core.Bool.{true≢false}
 use borrow.Author.Rules.{rules}
 use Rattle.index.proofs.Faults.{reusable}
-use Rattle.calls.proofs.Lookups.{store-version}
+use Rattle.calls.proofs.Lookups.{store_version}
 use Rattle.calls_write_lookup_code.proofs.store.is_accepted.Statement.{statement}
 use Rattle.calls_write_lookup_code.proofs.store.is_accepted.Tie as tie
 
@@ -19,7 +19,7 @@ is-open-by-requires c κs =
     let at-else1 = (else4-to-else2 c).before.before in
     let at-start = else1-to-start at-else1 in
     let ends = reusable _ _ _ (sym at-else1.before.ends-fault.ensures ∙ at-else1.if1.left) in
-    (at-start.pre, ends.first-low, ends.first-high)
+    (at-start.pre, ends.first_low, ends.first_high)
 
 returns-5 : tie.Need-returns-5
 returns-5 c =
@@ -29,7 +29,7 @@ returns-5 c =
     let at-start = else1-to-start at-else1 in
     λ e.
     sym
-    (store-version _ _ at-start.args.state _ _ _ at-else1.before.ends-fault.ensures at-else1.if1.left at-else2.if2.left _
+    (store_version _ _ at-start.args.state _ _ _ at-else1.before.ends-fault.ensures at-else1.if1.left at-else2.if2.left _
     (sym (c.is-open-by.ensures e)) refl _ at-else4.before.before.before.live-fault.ensures at-else4.before.before.if3.false _
     at-else4.before.version-fault.ensures)
     ∙ at-else4.if4.false

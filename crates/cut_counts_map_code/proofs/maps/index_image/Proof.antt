@@ -1,6 +1,6 @@
 -- `cut_counts_map_code::maps::index_image` meets its contract. Assumes nothing.
 use borrow.Author.Rules.{rules}
-use Rattle.cut_counts.proofs.Indexes.{recovery-maps, recovery-refused}
+use Rattle.cut_counts.proofs.Indexes.{recovery_maps, recovery_refused}
 use Rattle.cut_counts_map_code.proofs.maps.index_image.Statement.{statement}
 use Rattle.cut_counts_map_code.proofs.maps.index_image.Tie as tie
 
@@ -24,7 +24,7 @@ returns : tie.Need-returns
 returns c =
     let at-recover-in = known-told-to-recover-in c in
     let at-start = recover-in-to-start at-recover-in in
-    recovery-maps _ _ _ _ at-start.pre.1 _ _ _ _ at-recover-in.recover-in.ensures.result-is at-recover-in.recover-in.kept.1.1.0
+    recovery_maps _ _ _ _ at-start.pre.1 _ _ _ _ at-recover-in.recover-in.ensures.result_is at-recover-in.recover-in.kept.1.1.0
     at-recover-in.recover-in.kept.1.1.1.0 _ c.before.recovered.given.1
 
 same-length-3 : tie.Need-same-length-3
@@ -37,7 +37,7 @@ returns-2 : tie.Need-returns-2
 returns-2 c =
     let at-recover-in = known-told2-to-recover-in c in
     let at-start = recover-in-to-start at-recover-in in
-    recovery-refused _ _ _ _ at-start.pre.1 _ _ _ _ at-recover-in.recover-in.ensures.result-is _ _ c.before.recovered2.given.1
+    recovery_refused _ _ _ _ at-start.pre.1 _ _ _ _ at-recover-in.recover-in.ensures.result_is _ _ c.before.recovered2.given.1
 
 pub index-image-spec : {M : Type 1} → statement M
 index-image-spec =

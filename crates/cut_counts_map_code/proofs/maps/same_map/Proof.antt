@@ -2,7 +2,7 @@
 use Prim.Native.Nat.{◌+◌, ◌-◌}
 use native.Mathlib.Omega.{arith}
 use borrow.Author.Rules.{rules}
-use Rattle.cut_counts.proofs.Slots.{own-sized, Passed, none_passed, slot_apart, slot-passed, live-apart, all-passed}
+use Rattle.cut_counts.proofs.Slots.{own_sized, Passed, none_passed, slot_apart, slot_passed, live_apart, all_passed}
 use Rattle.cut_counts_map_code.proofs.maps.same_map.Statement.{statement}
 use Rattle.cut_counts_map_code.proofs.maps.same_map.Tie as tie
 
@@ -19,7 +19,7 @@ else1-to-start at = at.before.before.before.before.before.before.before
 returns : tie.Need-returns invariant-loop decreases-loop
 returns c =
     let at-start = c.before.before.before.before.before.before.before in
-    live-apart _ _ _ _ _ _ _ _ _ at-start.requires.1 at-start.requires.2 c.if1.true
+    live_apart _ _ _ _ _ _ _ _ _ at-start.requires.1 at-start.requires.2 c.if1.true
 
 loop-holds : tie.Need-loop-init invariant-loop decreases-loop
 loop-holds c = none_passed _ _ _
@@ -27,7 +27,7 @@ loop-holds c = none_passed _ _ _
 slot-low-requires : tie.Need-slot-low-requires invariant-loop decreases-loop
 slot-low-requires c κs =
     let at-start = else1-to-start c.before.before.before in
-    omega (arith, (own-sized _ _ _ _ at-start.pre.1.index _ c.before.before.slot-count.ensures).image-size, c.loop-test.true)
+    omega (arith, (own_sized _ _ _ _ at-start.pre.1.index _ c.before.before.slot_count.ensures).image-size, c.loop-test.true)
 
 slot-high-requires : tie.Need-slot-high-requires invariant-loop decreases-loop
 slot-high-requires c κs =
@@ -35,7 +35,7 @@ slot-high-requires c κs =
     record {
       layout = at-start.pre.0;
       room = omega
-          (arith, (own-sized _ _ _ _ at-start.pre.1.index _ c.before.before.before.slot-count.ensures).image-size, c.before.loop-test.true);
+          (arith, (own_sized _ _ _ _ at-start.pre.1.index _ c.before.before.before.slot_count.ensures).image-size, c.before.loop-test.true);
     }
 
 differ-at-requires : tie.Need-differ-at-requires invariant-loop decreases-loop
@@ -46,14 +46,14 @@ differ-at-requires c κs =
 returns-2 : tie.Need-returns-2 invariant-loop decreases-loop
 returns-2 c =
     let at-start = else1-to-start c.before.before.before.before.before.before.before in
-    slot_apart _ _ _ _ _ _ at-start.pre.0 c.before.before.before.slot-low.ensures c.before.before.slot-high.ensures _
+    slot_apart _ _ _ _ _ _ at-start.pre.0 c.before.before.before.slot_low.ensures c.before.before.slot_high.ensures _
     c.before.differ-at.ensures c.if2.true
 
 add-s : tie.Need-overflow-add-s invariant-loop decreases-loop
 add-s c =
     let in-loop = c.before.before.before.before in
     let at-start = else1-to-start in-loop.before.before.before in
-    omega (arith, in-loop.loop-test.true, (own-sized _ _ _ _ at-start.pre.1.index _ in-loop.before.before.slot-count.ensures).few)
+    omega (arith, in-loop.loop-test.true, (own_sized _ _ _ _ at-start.pre.1.index _ in-loop.before.before.slot_count.ensures).few)
 
 loop-less : tie.Need-loop-smaller invariant-loop decreases-loop
 loop-less c = omega (arith, c.before.before.before.before.loop-test.true)
@@ -62,15 +62,15 @@ loop-again : tie.Need-loop-preserved invariant-loop decreases-loop
 loop-again c =
     let in-loop = c.before.before.before.before in
     let at-start = else1-to-start in-loop.before.before.before in
-    slot-passed _ _ _ _ _ _ at-start.pre.0 c.before.before.before.slot-low.ensures c.before.before.slot-high.ensures _
+    slot_passed _ _ _ _ _ _ at-start.pre.0 c.before.before.before.slot_low.ensures c.before.before.slot_high.ensures _
     c.before.differ-at.ensures c.if2.false
-    (omega (arith, in-loop.loop-test.true, in-loop.before.before.slot-count.ensures)) in-loop.before.loop.invariant
+    (omega (arith, in-loop.loop-test.true, in-loop.before.before.slot_count.ensures)) in-loop.before.loop.invariant
 
 returns-3 : tie.Need-returns-3 invariant-loop decreases-loop
 returns-3 c =
     let at-start = else1-to-start c.before.before.before in
-    all-passed _ _ _ _ _ _ _ _ _ at-start.pre.1 at-start.pre.2 _ c.before.before.before.if1.false
-    (omega (arith, c.loop-test.false, c.before.before.slot-count.ensures)) c.before.loop.invariant
+    all_passed _ _ _ _ _ _ _ _ _ at-start.pre.1 at-start.pre.2 _ c.before.before.before.if1.false
+    (omega (arith, c.loop-test.false, c.before.before.slot_count.ensures)) c.before.loop.invariant
 
 pub same-map-spec : {M : Type 1} → statement M
 same-map-spec =

@@ -1,6 +1,6 @@
 -- `cut_counts_map_code::slots::differ_at` meets its contract. Assumes nothing.
 use borrow.Author.Rules.{rules}
-use Rattle.cut_counts.proofs.Slots.{own-inside, not_first, first_alone, held_both}
+use Rattle.cut_counts.proofs.Slots.{own_inside, not_first, first_alone, held_both}
 use Rattle.cut_counts_map_code.proofs.slots.differ_at.Statement.{statement}
 use Rattle.cut_counts_map_code.proofs.slots.differ_at.Tie as tie
 
@@ -20,8 +20,8 @@ values-differ-requires c κs =
     let at-start = slot-of-to-start c.before.before.before in
     let s = c.before.before.before.slot_of.ensures.held c.before.if1.false in
     let t = c.before.before.slot-of2.ensures.held c.if2.false in (
-      own-inside _ _ _ _ at-start.pre.1 _ at-start.pre.0 s.slot,
-      own-inside _ _ _ _ at-start.pre.2 _ at-start.pre.0 t.slot,
+      own_inside _ _ _ _ at-start.pre.1 _ at-start.pre.0 s.slot,
+      own_inside _ _ _ _ at-start.pre.2 _ at-start.pre.0 t.slot,
       s.sound,
       t.sound,
     )

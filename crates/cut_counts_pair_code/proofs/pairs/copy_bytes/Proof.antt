@@ -4,7 +4,7 @@ use Prim.Native.Nat.{◌-◌}
 use native.Mathlib.Omega.{arith}
 use borrow.Author.Rules.{rules}
 use lib.ListN.{length}
-use Rattle.prelude.proofs.Fills.{Filling, fill_start, fill-turn, fill_end}
+use Rattle.prelude.proofs.Fills.{Filling, fill_start, fill_turn, fill_end}
 use Rattle.cut_counts_pair_code.proofs.pairs.copy_bytes.Statement.{statement}
 use Rattle.cut_counts_pair_code.proofs.pairs.copy_bytes.Tie as tie
 
@@ -23,6 +23,6 @@ copy-bytes-spec =
     (λ c. fill_start _ _ (sym c.requires))
     (λ c. search rules) (λ c. search rules) (λ c. search rules)
     (λ c. omega arith)
-    (λ c. fill-turn _ _ _ _ _ (omega arith) refl c.before.before.loop.invariant)
+    (λ c. fill_turn _ _ _ _ _ (omega arith) refl c.before.before.loop.invariant)
     (λ c. c.before.loop.invariant.size)
     (λ c. fill_end _ _ _ _ (omega arith) c.before.loop.invariant))

@@ -2,19 +2,19 @@
 use mathlib.Core.Path.{refl}
 use Prim.Native.Nat.{◌-◌}
 use native.Mathlib.Omega.{arith}
-use Rattle.cut_counts.proofs.Pairs.{Going, going-first, going-copy, going-fits, going-length, going-low, going_next, going-last}
+use Rattle.cut_counts.proofs.Pairs.{Going, going_first, going_copy, going_fits, going_length, going_low, going_next, going_last}
 use Rattle.cut_counts_pair_code.proofs.pairs.count_pairs.Statement.{statement}
 use Rattle.cut_counts_pair_code.proofs.pairs.count_pairs.Tie as tie
 
 abbrev invariant-loop : tie.invariant-loop
-invariant-loop image heads next index later later-heads later-next later-index l stores copy₀ copy-heads₀ copy-next₀ t₀ i₀ copy copy-heads copy-next t i =
-    Going l image stores.at stores.value later copy₀ copy-heads₀ copy-next₀ copy copy-heads copy-next t i
+invariant-loop image heads next index later later-heads later-next later-index l stores copy₀ copy-heads₀ copy-next₀ t₀ i₀ copy copy-heads copy_next t i =
+    Going l image stores.at stores.value later copy₀ copy-heads₀ copy-next₀ copy copy-heads copy_next t i
 
 abbrev decreases-loop : tie.decreases-loop
-decreases-loop image heads next index later later-heads later-next later-index l stores copy₀ copy-heads₀ copy-next₀ t₀ i₀ copy copy-heads copy-next t i = 81 - i
+decreases-loop image heads next index later later-heads later-next later-index l stores copy₀ copy-heads₀ copy-next₀ t₀ i₀ copy copy-heads copy_next t i = 81 - i
 
 loop-holds : tie.Need-loop-init invariant-loop decreases-loop
-loop-holds c = going-first _ _ _ _ _ _ _ _ _ refl refl
+loop-holds c = going_first _ _ _ _ _ _ _ _ _ refl refl
 
 -- the points that the proof uses, each by the way from the one after it
 abbrev shared-slice-known5-to-start : tie.After-shared-slice-known5 invariant-loop decreases-loop → tie.Start invariant-loop decreases-loop
@@ -43,8 +43,8 @@ cut-copy-requires c κs =
     let at-loop = c.before.before.before.before in
     let at-start = loop-to-start at-loop in (
       at-start.pre.0,
-      going-copy _ _ _ _ _ _ _ _ _ _ _ _ _ at-loop.loop.invariant at-start.pre.3,
-      going-fits _ _ _ _ _ _ _ _ _ _ _ _ _ at-loop.loop.invariant
+      going_copy _ _ _ _ _ _ _ _ _ _ _ _ _ at-loop.loop.invariant at-start.pre.3,
+      going_fits _ _ _ _ _ _ _ _ _ _ _ _ _ at-loop.loop.invariant
           at-start.pre.4,
     )
 
@@ -63,7 +63,7 @@ have-one-map-requires-2 c κs =
 with-pair-requires : tie.Need-with-pair-requires invariant-loop decreases-loop
 with-pair-requires c κs =
     let in-loop = cut-copy-to-in-loop (have-one-map-to-cut-copy c.before.before.before.before) in
-    let low = going-low _ _ _ _ _ _ _ _ _ _ _ _ _ in-loop.before.loop.inv in
+    let low = going_low _ _ _ _ _ _ _ _ _ _ _ _ _ in-loop.before.loop.inv in
     (omega (arith, low.0, in-loop.loop-test.taken), omega (arith, low.1, in-loop.loop-test.taken))
 
 add-i : tie.Need-overflow-add-i invariant-loop decreases-loop
@@ -86,16 +86,16 @@ loop-again c =
     c.before.have-one-map2.ensures _ c.with_pair.ensures
 
 same_length : tie.Need-same-length invariant-loop decreases-loop
-same_length c = going-length _ _ _ _ _ _ _ _ _ _ _ _ _ c.before.loop.invariant (loop-to-start c.before).pre.3
+same_length c = going_length _ _ _ _ _ _ _ _ _ _ _ _ _ c.before.loop.invariant (loop-to-start c.before).pre.3
 
 same-length-2 : tie.Need-same-length-2 invariant-loop decreases-loop
-same-length-2 c = c.before.loop.invariant.same-heads
+same-length-2 c = c.before.loop.invariant.same_heads
 
 same-length-3 : tie.Need-same-length-3 invariant-loop decreases-loop
 same-length-3 c = c.before.loop.invariant.same_next
 
 returns : tie.Need-returns invariant-loop decreases-loop
-returns c = going-last _ _ _ _ _ _ _ _ _ _ _ _ _ c.before.loop.invariant c.loop-test.false
+returns c = going_last _ _ _ _ _ _ _ _ _ _ _ _ _ c.before.loop.invariant c.loop-test.false
 
 pub count-pairs-spec : {M : Type 1} → statement M
 count-pairs-spec =

@@ -2,7 +2,7 @@
 use mathlib.Core.Path.{refl, ap, ◌∙◌}
 use lib.ListN.{length}
 use borrow.Author.Rules.{rules}
-use Rattle.cut_counts.proofs.Pairs.{cut-made, cut-length, fits-same}
+use Rattle.cut_counts.proofs.Pairs.{cut_made, cut_length, fits_same}
 use Rattle.cut_counts_pair_code.proofs.pairs.cut_copy.Statement.{statement}
 use Rattle.cut_counts_pair_code.proofs.pairs.cut_copy.Tie as tie
 
@@ -22,8 +22,8 @@ index-image-requires c κs =
     let at-copy-bytes = play-to-copy-bytes at-play in
     let at-start = at-copy-bytes.before.before.before.before.before.before in (
       at-start.pre.0,
-      fits-same _ _ _ _ _ _
-          (ap length (cut-made _ _ _ _ _ _ _ _ at-copy-bytes.copy-bytes.ensures at-play.play.ensures) ∙ cut-length _ _ _ _ _) refl refl
+      fits_same _ _ _ _ _ _
+          (ap length (cut_made _ _ _ _ _ _ _ _ at-copy-bytes.copy-bytes.ensures at-play.play.ensures) ∙ cut_length _ _ _ _ _) refl refl
           at-start.pre.2,
     )
 
@@ -44,7 +44,7 @@ returns c =
     let at-index-image = slice-known7-to-index-image c in
     let at-play = index-image-to-play at-index-image in
     let at-copy-bytes = play-to-copy-bytes at-play in
-    (cut-made _ _ _ _ _ _ _ _ at-copy-bytes.copy-bytes.ensures at-play.play.ensures, at-index-image.index-image.ensures)
+    (cut_made _ _ _ _ _ _ _ _ at-copy-bytes.copy-bytes.ensures at-play.play.ensures, at-index-image.index-image.ensures)
 
 pub cut-copy-spec : {M : Type 1} → statement M
 cut-copy-spec =

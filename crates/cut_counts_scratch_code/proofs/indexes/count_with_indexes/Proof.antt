@@ -1,7 +1,7 @@
 -- `cut_counts_scratch_code::indexes::count_with_indexes` meets its contract. Assumes nothing.
 use borrow.Author.Rules.{rules}
-use Rattle.cut_counts.proofs.Indexes.{mapped, not-mapped, mapped-clear}
-use Rattle.cut_counts.proofs.Pairs.{copies-long, image-refused, lent-refused, counted-all}
+use Rattle.cut_counts.proofs.Indexes.{mapped, not_mapped, mapped_clear}
+use Rattle.cut_counts.proofs.Pairs.{copies_long, image-refused, lent_refused, counted-all}
 use Rattle.cut_counts_scratch_code.proofs.indexes.count_with_indexes.Statement.{statement}
 use Rattle.cut_counts_scratch_code.proofs.indexes.count_with_indexes.Tie as tie
 
@@ -21,8 +21,8 @@ later-heads-to-tally at = at.before.before.before.before.before
 returns : tie.Need-returns
 returns c =
     let at-index-image = enum-told-to-index-image c.before.before in
-    lent-refused _ _ _ _ _ _
-    (mapped-clear _ _ _ _ _ (mapped _ _ _ _ _ at-index-image.index-image.ensures _ c.before.before.enum_told.given.1)) _
+    lent_refused _ _ _ _ _ _
+    (mapped_clear _ _ _ _ _ (mapped _ _ _ _ _ at-index-image.index-image.ensures _ c.before.before.enum_told.given.1)) _
     c.before.arguments-fault.ensures c.if1.true
 
 tally-requires : tie.Need-tally-requires
@@ -30,13 +30,13 @@ tally-requires c κs =
     let at-else1 = c.before.before.before.before.before.before.before.before in
     let at-index-image = enum-told-to-index-image at-else1.before.before in
     let at-start = slice-known5-to-start at-index-image.before.before.before.before.before.before in
-    let long = copies-long _ _ _ _ _ at-else1.before.arguments-fault.ensures at-else1.if1.false in
+    let long = copies_long _ _ _ _ _ at-else1.before.arguments-fault.ensures at-else1.if1.false in
     (at-start.pre.0, at-index-image.index-image.ensures, long.0, long.1, at-start.pre.2, at-start.pre.3)
 
 returns-2 : tie.Need-returns-2
 returns-2 c =
     let at-index-image = c.before.before.before.before.before.before.before in
-    image-refused _ _ _ _ _ _ _ (not-mapped _ _ _ _ _ at-index-image.index-image.ensures _ c.before.index.given.1)
+    image-refused _ _ _ _ _ _ _ (not_mapped _ _ _ _ _ at-index-image.index-image.ensures _ c.before.index.given.1)
 
 returns-3 : tie.Need-returns-3
 returns-3 c =
@@ -44,7 +44,7 @@ returns-3 c =
     let at-else1 = tally-arg4-to-else1 at-tally.before.before.before.before.before in
     let at-index-image = enum-told-to-index-image at-else1.before.before in
     counted-all _ _ _ _ _ _
-    (mapped-clear _ _ _ _ _ (mapped _ _ _ _ _ at-index-image.index-image.ensures _ at-else1.before.before.enum_told.given.1)) _
+    (mapped_clear _ _ _ _ _ (mapped _ _ _ _ _ at-index-image.index-image.ensures _ at-else1.before.before.enum_told.given.1)) _
     at-else1.before.arguments-fault.ensures at-else1.if1.left _ _ _
     at-tally.tally.ensures.0 at-tally.tally.ensures.1 at-tally.tally.ensures.2
 

@@ -1,21 +1,21 @@
 -- `exports_answer_code::answer::write_answer_located` meets its contract. Assumes nothing.
 use mathlib.Core.Path.{refl}
 use borrow.Author.Rules.{rules}
-use Rattle.interface.specs.Set.{locateSays}
-use Rattle.exports.specs.Call.{answeredWith, returnedWith}
+use Rattle.interface.specs.Set.{locate_says}
+use Rattle.exports.specs.Call.{answered_with, returned_with}
 use Rattle.exports_answer_code.proofs.answer.write_answer_located.Statement.{statement}
 use Rattle.exports_answer_code.proofs.answer.write_answer_located.Tie as tie
 
 returns : tie.Need-returns
-unfolding returnedWith answeredWith locateSays
+unfolding returned_with answered_with locate_says
 returns c = rw c.before.before.located.given.1 (c.refused-with.ensures, refl)
 
 returns-2 : tie.Need-returns-2
-unfolding returnedWith answeredWith locateSays
+unfolding returned_with answered_with locate_says
 returns-2 c = rw c.before.before.enum_told.given.1 (refl, refl)
 
 returns-3 : tie.Need-returns-3
-unfolding returnedWith answeredWith locateSays
+unfolding returned_with answered_with locate_says
 returns-3 c = rw c.before.before.before.located2.given.1 (refl, refl)
 
 pub write-answer-located-spec : {M : Type 1} → statement M

@@ -1,18 +1,18 @@
 -- `exports_answer_code::count::write_answer_counted` meets its contract. Assumes nothing.
 use borrow.Author.Rules.{rules}
-use Rattle.prelude.specs.Answer.{givenOr}
-use Rattle.interface.specs.Set.{countValues, countEnd}
-use Rattle.exports.specs.Call.{returnedWith}
-use Rattle.exports.specs.Count.{countCall}
+use Rattle.prelude.specs.Answer.{given_or}
+use Rattle.interface.specs.Set.{count_values, count_end}
+use Rattle.exports.specs.Call.{returned_with}
+use Rattle.exports.specs.Count.{count_call}
 use Rattle.exports_answer_code.proofs.count.write_answer_counted.Statement.{statement}
 use Rattle.exports_answer_code.proofs.count.write_answer_counted.Tie as tie
 
 returns : tie.Need-returns
-unfolding returnedWith givenOr countCall countEnd
+unfolding returned_with given_or count_call count_end
 returns c heads next = rw (c.refused-with.ensures, c.before.before.answer.given.1)
 
 returns-2 : tie.Need-returns-2
-unfolding returnedWith givenOr countCall countEnd countValues
+unfolding returned_with given_or count_call count_end count_values
 returns-2 c heads next =
     let at-answer2 = c.before.before.before.before.before.before.before.before in
     rw at-answer2.answer2.given.1

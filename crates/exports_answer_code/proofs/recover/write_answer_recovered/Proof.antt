@@ -1,16 +1,16 @@
 -- `exports_answer_code::recover::write_answer_recovered` meets its contract. Assumes nothing.
 use borrow.Author.Rules.{rules}
-use Rattle.interface.specs.Set.{recoverEnd}
-use Rattle.exports.specs.Call.{returnedWith, givenOrLent, recoverCall}
+use Rattle.interface.specs.Set.{recover_end}
+use Rattle.exports.specs.Call.{returned_with, given_or_lent, recover_call}
 use Rattle.exports_answer_code.proofs.recover.write_answer_recovered.Statement.{statement}
 use Rattle.exports_answer_code.proofs.recover.write_answer_recovered.Tie as tie
 
 returns : tie.Need-returns
-unfolding returnedWith givenOrLent recoverCall recoverEnd
+unfolding returned_with given_or_lent recover_call recover_end
 returns c heads next = rw (c.refused-with.ensures, c.before.before.recovered.given.1)
 
 returns-2 : tie.Need-returns-2
-unfolding returnedWith givenOrLent recoverCall recoverEnd
+unfolding returned_with given_or_lent recover_call recover_end
 returns-2 c heads next =
     let at-keep-state = c.before.before.before.before in
     let at-recovered2 = at-keep-state.before.before.before.before in

@@ -3,7 +3,7 @@ use mathlib.Core.Path.{◌∙◌, ap}
 use mathlib.Core.List.{List, ◌∷◌}
 use Prim.Native.Nat.{ℕ}
 use borrow.Author.Rules.{rules}
-use Rattle.exports.proofs.Basket.{eight-listed}
+use Rattle.exports.proofs.Basket.{eight_listed}
 use Rattle.exports_basket_code.proofs.basket.answer_of.Statement.{statement}
 use Rattle.exports_basket_code.proofs.basket.answer_of.Tie as tie
 
@@ -21,7 +21,7 @@ returns c =
       c.before.slot-as-word7.ensures,
       c.slot-as-word8.ensures,
     )
-    (ap (λ (xs : List ℕ). at-start.args.version ∷ xs) (eight-listed at-start.args.t2 (search (rules, at-start.well-formed.1.0))))
+    (ap (λ (xs : List ℕ). at-start.args.version ∷ xs) (eight_listed at-start.args.t2 (search (rules, at-start.well-formed.1.0))))
 
 pub answer-of-spec : {M : Type 1} → statement M
 answer-of-spec =

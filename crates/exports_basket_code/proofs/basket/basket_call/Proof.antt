@@ -1,6 +1,6 @@
 -- `exports_basket_code::basket::basket_call` meets its contract. Assumes nothing.
 use borrow.Author.Rules.{rules}
-use Rattle.exports.proofs.Basket.{basket-called}
+use Rattle.exports.proofs.Basket.{basket_called}
 use Rattle.exports_basket_code.proofs.basket.basket_call.Statement.{statement}
 use Rattle.exports_basket_code.proofs.basket.basket_call.Tie as tie
 
@@ -12,7 +12,7 @@ returns c =
     let at-asked = at-items.before in
     let at-state = at-asked.before in
     rw (← at-state.state-from.ensures, ← at-asked.keys-asked.ensures, ← at-items.given-items.ensures)
-    (basket-called _ _ _ _ _ _ _ _ at-asked.keys-asked.result _ _ at-basket.basket-in-layout.ensures c.write-answer-basket.ensures)
+    (basket_called _ _ _ _ _ _ _ _ at-asked.keys-asked.result _ _ at-basket.basket-in-layout.ensures c.write-answer-basket.ensures)
 
 pub basket-call-spec : {M : Type 1} → statement M
 basket-call-spec =

@@ -1,11 +1,11 @@
 -- `exports_basket_code::basket::given_item` meets its contract. Assumes nothing.
 use borrow.Author.Rules.{rules}
-use Rattle.exports.specs.Basket.{givenItem}
+use Rattle.exports.specs.Basket.{given_item}
 use Rattle.exports_basket_code.proofs.basket.given_item.Statement.{statement}
 use Rattle.exports_basket_code.proofs.basket.given_item.Tie as tie
 
 returns : tie.Need-returns
-unfolding givenItem
+unfolding given_item
 returns c = rw c.before.before.before.action-of.ensures
 
 pub given-item-spec : {M : Type 1} → statement M

@@ -1,11 +1,11 @@
 -- `exports_basket_code::basket::given_items` meets its contract. Assumes nothing.
 use borrow.Author.Rules.{rules}
-use Rattle.exports.specs.Basket.{givenItems}
+use Rattle.exports.specs.Basket.{given_items}
 use Rattle.exports_basket_code.proofs.basket.given_items.Statement.{statement}
 use Rattle.exports_basket_code.proofs.basket.given_items.Tie as tie
 
 returns : tie.Need-returns
-unfolding givenItems
+unfolding given_items
 returns c =
     let at-given-item4 = c.before.before.before.before in
     rw (

@@ -1,6 +1,6 @@
 -- `exports_write_code::write::write_call` meets its contract. Assumes nothing.
 use borrow.Author.Rules.{rules}
-use Rattle.exports.proofs.Calls.{change-called}
+use Rattle.exports.proofs.Calls.{change_called}
 use Rattle.exports_write_code.proofs.write.write_call.Statement.{statement}
 use Rattle.exports_write_code.proofs.write.write_call.Tie as tie
 
@@ -10,7 +10,7 @@ returns c =
     let at_call = at-lent.before.before.before.before in
     let at-state = at_call.before.before.before.before.before in
     rw (← at-state.state-from.ensures)
-    (change-called _ _ _ _ _ _ _ _ _ at_call.write-in-layout.result _ at_call.write-in-layout.ensures.0 c.write-answer.ensures)
+    (change_called _ _ _ _ _ _ _ _ _ at_call.write-in-layout.result _ at_call.write-in-layout.ensures.0 c.write-answer.ensures)
 
 pub write-call-spec : {M : Type 1} → statement M
 write-call-spec =

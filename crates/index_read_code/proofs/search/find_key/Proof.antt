@@ -1,14 +1,14 @@
 -- `index_read_code::search::find_key` meets its contract. Assumes nothing.
 use native.Mathlib.Omega.{arith}
 use borrow.Author.Rules.{rules}
-use Rattle.layout.specs.Record.{keyWith}
+use Rattle.layout.specs.Record.{key_with}
 use Rattle.index.proofs.Walks.{Going, begins, at-end, past, here, on, out}
 use Rattle.index_read_code.proofs.search.find_key.Statement.{statement}
 use Rattle.index_read_code.proofs.search.find_key.Tie as tie
 
 abbrev invariant-loop : tie.invariant-loop
 invariant-loop image l heads next n low high head at₀ prev₀ compared₀ left₀ at prev compared left =
-    Going l image heads next n (keyWith low high) at prev compared left
+    Going l image heads next n (key_with low high) at prev compared left
 
 abbrev decreases-loop : tie.decreases-loop
 decreases-loop image l heads next n low high head at₀ prev₀ compared₀ left₀ at prev compared left = left
@@ -18,7 +18,7 @@ abbrev loop-to-start : tie.At-loop invariant-loop decreases-loop → tie.Start i
 loop-to-start at = at.before.before.before.before.before.before
 
 head-of-requires : tie.Need-head-of-requires invariant-loop decreases-loop
-head-of-requires c κs = c.before.before.before.requires.1.some-head
+head-of-requires c κs = c.before.before.before.requires.1.some_head
 
 mul_at : tie.Need-overflow-mul-at invariant-loop decreases-loop
 mul_at c = omega (arith, c.before.before.before.before.well-formed.1.1.0.1, c.head_of.ensures.0)
@@ -29,7 +29,7 @@ shared-slice-read-at c = c.before.head_of.ensures.0
 loop-holds : tie.Need-loop-init invariant-loop decreases-loop
 loop-holds c =
     let at-start = c.before.before.before.before.before in
-    begins _ _ _ _ _ _ _ at-start.requires.1.slot-count (c.before.head_of.ensures.1 at-start.args.high) (c.shared-slice-known4.given _).fits
+    begins _ _ _ _ _ _ _ at-start.requires.1.slot_count (c.before.head_of.ensures.1 at-start.args.high) (c.shared-slice-known4.given _).fits
 
 returns : tie.Need-returns invariant-loop decreases-loop
 returns c = at-end _ _ _ _ _ _ _ _ _ _ c.before.before.loop.invariant (search rules) c.if1.true

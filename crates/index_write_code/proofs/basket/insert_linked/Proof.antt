@@ -2,7 +2,7 @@
 use mathlib.Core.Path.{◌∙◌}
 use native.Mathlib.Omega.{arith}
 use lib.ListN.{length-set}
-use Rattle.index.proofs.BasketWrites.{before-within, insert-linked}
+use Rattle.index.proofs.BasketWrites.{before_within, insert_linked}
 use borrow.Author.Rules.{rules}
 use Rattle.index_write_code.proofs.basket.insert_linked.Statement.{statement}
 use Rattle.index_write_code.proofs.basket.insert_linked.Tie as tie
@@ -17,7 +17,7 @@ slice-known5-to-link at = at.before.before.before.before
 link-requires : tie.Need-link-requires
 link-requires c κs =
     let at-start = slot-before-to-start c.before.before in
-    (at-start.pre.head_in, rw length-set (before-within _ _ _ _ _ c.before.before.slot-before.ensures at-start.pre.size))
+    (at-start.pre.head_in, rw length-set (before_within _ _ _ _ _ c.before.before.slot-before.ensures at-start.pre.size))
 
 same-length-2 : tie.Need-same-length-2
 same-length-2 c = (slice-known5-to-link c).link.auto.1.0 ∙ simp length-set
@@ -26,7 +26,7 @@ returns : tie.Need-returns
 returns c =
     let at-link = slice-known5-to-link c in
     let at-slot-before = at-link.before.before.before in
-    insert-linked _ _ _ _ _ _ _ _ _ at-slot-before.slot-before.ensures at-link.link.ensures.0 at-link.link.ensures.1
+    insert_linked _ _ _ _ _ _ _ _ _ at-slot-before.slot-before.ensures at-link.link.ensures.0 at-link.link.ensures.1
 
 pub insert-linked-spec : {M : Type 1} → statement M
 insert-linked-spec =

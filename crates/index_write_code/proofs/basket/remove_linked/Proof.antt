@@ -1,8 +1,8 @@
 -- `index_write_code::basket::remove_linked` meets its contract. Assumes nothing.
 use mathlib.Core.Path.{◌∙◌}
 use native.Mathlib.Omega.{arith}
-use Rattle.index.proofs.Writes.{append-last}
-use Rattle.index.proofs.BasketWrites.{before-within, remove-linked}
+use Rattle.index.proofs.Writes.{append_last}
+use Rattle.index.proofs.BasketWrites.{before_within, remove_linked}
 use borrow.Author.Rules.{rules}
 use Rattle.index_write_code.proofs.basket.remove_linked.Statement.{statement}
 use Rattle.index_write_code.proofs.basket.remove_linked.Tie as tie
@@ -20,14 +20,14 @@ append-slot-to-link at = at.before.before.before.before.before.before
 link-requires : tie.Need-link-requires
 link-requires c κs =
     let at-start = slot-before-to-start c.before.before.before in
-    (at-start.pre.head_in, before-within _ _ _ _ _ c.before.before.before.slot-before.ensures at-start.pre.size)
+    (at-start.pre.head_in, before_within _ _ _ _ _ c.before.before.before.slot-before.ensures at-start.pre.size)
 
 append-slot-requires : tie.Need-append-slot-requires
 append-slot-requires c κs =
     let at-link = c.before.before.before.before.before in
     let at-start = slot-before-to-start (link-to-slot-before at-link) in (
       omega (arith, at-link.link.auto.1.0, at-start.pre.size, at-start.pre.old-in),
-      omega (arith, at-link.link.auto.1.0, at-start.pre.size, at-start.pre.last-in),
+      omega (arith, at-link.link.auto.1.0, at-start.pre.size, at-start.pre.last_in),
     )
 
 append-slot-requires-2 : tie.Need-append-slot-requires-2
@@ -35,14 +35,14 @@ append-slot-requires-2 c κs =
     let at-append-slot = c.before.before.before in
     let at-link = append-slot-to-link at-append-slot in
     let at-start = slot-before-to-start (link-to-slot-before at-link) in (
-      omega (arith, at-append-slot.append-slot.auto.0, at-link.link.kept.1.0, at-start.pre.size, at-start.pre.slot-in),
+      omega (arith, at-append-slot.append-slot.auto.0, at-link.link.kept.1.0, at-start.pre.size, at-start.pre.slot_in),
       omega (
         arith,
         at-append-slot.append-slot.auto.0,
         at-link.link.kept.1.0,
         at-start.pre.size,
         at-start.pre.old-in,
-        append-last _ _ _
+        append_last _ _ _
             at-append-slot.append-slot.ensures.0,
       ),
     )
@@ -53,7 +53,7 @@ returns c =
     let at-append-slot = at-append-slot2.before.before.before.before in
     let at-link = append-slot-to-link at-append-slot in
     let at-slot-before = link-to-slot-before at-link in
-    remove-linked _ _ _ _ _ _ _ _ _ _ at-slot-before.slot-before.ensures _ _ at-append-slot.append-slot.ensures.0
+    remove_linked _ _ _ _ _ _ _ _ _ _ at-slot-before.slot-before.ensures _ _ at-append-slot.append-slot.ensures.0
     at-append-slot.append-slot.ensures.1 _ _ at-link.link.ensures.0
     at-link.link.ensures.1 at-append-slot2.append-slot2.ensures.0 at-append-slot2.append-slot2.ensures.1
 

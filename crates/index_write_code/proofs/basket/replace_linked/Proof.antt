@@ -2,7 +2,7 @@
 use mathlib.Core.Path.{◌∙◌}
 use native.Mathlib.Omega.{arith}
 use lib.ListN.{length-set}
-use Rattle.index.proofs.BasketWrites.{before-within, replace-linked}
+use Rattle.index.proofs.BasketWrites.{before_within, replace_linked}
 use borrow.Author.Rules.{rules}
 use Rattle.index_write_code.proofs.basket.replace_linked.Statement.{statement}
 use Rattle.index_write_code.proofs.basket.replace_linked.Tie as tie
@@ -20,14 +20,14 @@ append-slot-to-link at = at.before.before.before.before.before.before
 link-requires : tie.Need-link-requires
 link-requires c κs =
     let at-start = slot-before-to-start c.before.before.before in
-    (at-start.pre.head_in, rw length-set (before-within _ _ _ _ _ c.before.before.before.slot-before.ensures at-start.pre.size))
+    (at-start.pre.head_in, rw length-set (before_within _ _ _ _ _ c.before.before.before.slot-before.ensures at-start.pre.size))
 
 append-slot-requires : tie.Need-append-slot-requires
 append-slot-requires c κs =
     let at-link = c.before.before.before.before.before in
     let at-start = slot-before-to-start (link-to-slot-before at-link) in (
       rw (at-link.link.auto.1.0, length-set) (omega (arith, at-start.pre.size, at-start.pre.old-in)),
-      rw (at-link.link.auto.1.0, length-set) (omega (arith, at-start.pre.size, at-start.pre.last-in)),
+      rw (at-link.link.auto.1.0, length-set) (omega (arith, at-start.pre.size, at-start.pre.last_in)),
     )
 
 same-length-2 : tie.Need-same-length-2
@@ -40,7 +40,7 @@ returns c =
     let at-append-slot = c.before.before in
     let at-link = append-slot-to-link at-append-slot in
     let at-slot-before = link-to-slot-before at-link in
-    replace-linked _ _ _ _ _ _ _ _ _ _ at-slot-before.slot-before.ensures _ _ at-append-slot.append-slot.ensures.0
+    replace_linked _ _ _ _ _ _ _ _ _ _ at-slot-before.slot-before.ensures _ _ at-append-slot.append-slot.ensures.0
     at-append-slot.append-slot.ensures.1 at-link.link.ensures.0 at-link.link.ensures.1
 
 pub replace-linked-spec : {M : Type 1} → statement M

@@ -2,8 +2,8 @@
 use Prim.Native.Nat.{◌-◌}
 use native.Mathlib.Omega.{arith}
 use borrow.Author.Rules.{rules}
-use Rattle.index.specs.Index.{noState}
-use Rattle.index.proofs.Pushes.{Going, going-starts, going-slot, going_on, going-ends}
+use Rattle.index.specs.Index.{no_state}
+use Rattle.index.proofs.Pushes.{Going, going_starts, going_slot, going_on, going_ends}
 use Rattle.index_write_code.proofs.build.chain_up.Statement.{statement}
 use Rattle.index_write_code.proofs.build.chain_up.Tie as tie
 
@@ -14,15 +14,15 @@ abbrev decreases-loop : tie.decreases-loop
 decreases-loop heads₀ next₀ order places state₀ left₀ heads next state left = left
 
 loop-holds : tie.Need-loop-init invariant-loop decreases-loop
-unfolding noState
-loop-holds c = going-starts _ _ _ _
+unfolding no_state
+loop-holds c = going_starts _ _ _ _
 
 -- the points that the proof uses, each by the way from the one after it
 abbrev loop-to-start : tie.At-loop invariant-loop decreases-loop → tie.Start invariant-loop decreases-loop
 loop-to-start at = at.before.before.before.before.before
 
 shared-slice-read-slot : tie.Need-shared-slice-read-slot invariant-loop decreases-loop
-shared-slice-read-slot c = going-slot _ _ _ _ _ _ _ _ c.before.before.loop.invariant c.before.loop-test.true
+shared-slice-read-slot c = going_slot _ _ _ _ _ _ _ _ c.before.before.loop.invariant c.before.loop-test.true
 
 cast-place : tie.Need-overflow-cast-place invariant-loop decreases-loop
 cast-place c = omega (arith, (c.shared-slice-known3.given (c.before.before.loop.left - 1)).fits)
@@ -34,7 +34,7 @@ mul-place c =
     omega (
       arith,
       at-start.pre.place-in _
-          (going-slot _ _ _ _ _ _ _ _ run.loop.invariant c.before.loop-test.true),
+          (going_slot _ _ _ _ _ _ _ _ run.loop.invariant c.before.loop-test.true),
     )
 
 shared-slice-read-place : tie.Need-shared-slice-read-place invariant-loop decreases-loop
@@ -42,7 +42,7 @@ shared-slice-read-place c =
     let run = c.before.before.before in
     let at-start = loop-to-start run in
     at-start.pre.place-in _
-    (going-slot _ _ _ _ _ _ _ _ run.loop.invariant c.before.before.loop-test.true)
+    (going_slot _ _ _ _ _ _ _ _ run.loop.invariant c.before.before.loop-test.true)
 
 push-front-requires : tie.Need-push-front-requires invariant-loop decreases-loop
 push-front-requires c κs =
@@ -50,9 +50,9 @@ push-front-requires c κs =
     let run = in-loop.before in
     let at-start = loop-to-start run in
     let given = at-start.pre in
-    let at = going-slot _ _ _ _ _ _ _ _ run.loop.invariant in-loop.loop-test.true in (
-      rw run.loop.invariant.next-size (given.slot-in _ at),
-      rw run.loop.invariant.heads-size (given.head_in _ at),
+    let at = going_slot _ _ _ _ _ _ _ _ run.loop.invariant in-loop.loop-test.true in (
+      rw run.loop.invariant.next_size (given.slot_in _ at),
+      rw run.loop.invariant.heads_size (given.head_in _ at),
     )
 
 loop-again : tie.Need-loop-preserved invariant-loop decreases-loop
@@ -63,7 +63,7 @@ loop-again c =
     pushed.push-front.auto.1.0 pushed.push-front.ensures
 
 returns : tie.Need-returns invariant-loop decreases-loop
-returns c = going-ends _ _ _ _ _ _ _ _ c.before.loop.invariant c.loop-test.false
+returns c = going_ends _ _ _ _ _ _ _ _ c.before.loop.invariant c.loop-test.false
 
 pub chain-up-spec : {M : Type 1} → statement M
 chain-up-spec =
@@ -80,6 +80,6 @@ chain-up-spec =
     push-front-requires
     (λ c. search rules)
     loop-again
-    (λ c. c.before.loop.invariant.heads-size)
-    (λ c. c.before.loop.invariant.next-size)
+    (λ c. c.before.loop.invariant.heads_size)
+    (λ c. c.before.loop.invariant.next_size)
     returns)

@@ -3,7 +3,7 @@ use mathlib.Core.Path.{◌∙◌}
 use native.Mathlib.Omega.{arith}
 use lib.ListN.{length-set}
 use borrow.Author.Rules.{rules}
-use Rattle.index.proofs.Writes.{taken_live, taken-version, insert-new}
+use Rattle.index.proofs.Writes.{taken_live, taken_version, insert-new}
 use Rattle.index_write_code.proofs.change.insert_new.Statement.{statement}
 use Rattle.index_write_code.proofs.change.insert_new.Tie as tie
 
@@ -27,7 +27,7 @@ add-t19 : tie.Need-overflow-add-t19
 add-t19 c =
     let took = link-to-take (struct-known2-to-link c) in
     let at-start = take-to-start took in
-    omega (arith, taken-version _ _ _ took.take.ensures, at-start.pre.0.version-fits)
+    omega (arith, taken_version _ _ _ took.take.ensures, at-start.pre.0.version_fits)
 
 same-length-2 : tie.Need-same-length-2
 same-length-2 c = (struct-known2-to-link c).link.auto.1.0 ∙ simp length-set

@@ -1,7 +1,7 @@
 -- `index_write_code::change::remove_held` meets its contract. Assumes nothing.
 use native.Mathlib.Omega.{arith}
 use borrow.Author.Rules.{rules}
-use Rattle.index.proofs.Writes.{taken-last, taken_live, taken-version, append-last, append-live, append-version, remove-held}
+use Rattle.index.proofs.Writes.{taken_last, taken_live, taken_version, append_last, append_live, append_version, remove-held}
 use Rattle.index_write_code.proofs.change.remove_held.Statement.{statement}
 use Rattle.index_write_code.proofs.change.remove_held.Tie as tie
 
@@ -27,8 +27,8 @@ append-slot-requires c κs =
     let took = link-to-take linked in
     let at-start = take-to-start took in
     let given = at-start.pre.0 in (
-      omega (arith, linked.link.auto.1.0, given.old-in, given.first-in),
-      rw linked.link.auto.1.0 (taken-last _ _ _ took.take.ensures given.last-in),
+      omega (arith, linked.link.auto.1.0, given.old-in, given.first_in),
+      rw linked.link.auto.1.0 (taken_last _ _ _ took.take.ensures given.last_in),
     )
 
 append-slot-requires-2 : tie.Need-append-slot-requires-2
@@ -37,14 +37,14 @@ append-slot-requires-2 c κs =
     let linked = append-slot-to-link joined in
     let at-start = take-to-start (link-to-take linked) in
     let given = at-start.pre.0 in (
-      omega (arith, joined.append-slot.auto.0, linked.link.kept.1.0, given.old-in, given.first-in),
+      omega (arith, joined.append-slot.auto.0, linked.link.kept.1.0, given.old-in, given.first_in),
       omega (
         arith,
         joined.append-slot.auto.0,
         linked.link.kept.1.0,
-        append-last _ _ _ joined.append-slot.ensures.0,
+        append_last _ _ _ joined.append-slot.ensures.0,
         given.old-in,
-        given.first-in,
+        given.first_in,
       ),
     )
 
@@ -56,8 +56,8 @@ sub-t17 c =
     let at-start = take-to-start took in
     omega (
       arith,
-      append-live _ _ _ again.append-slot2.ensures.0,
-      append-live _ _ _ joined.append-slot.ensures.0,
+      append_live _ _ _ again.append-slot2.ensures.0,
+      append_live _ _ _ joined.append-slot.ensures.0,
       taken_live _ _ _ took.take.ensures,
       at-start.pre.1,
     )
@@ -70,10 +70,10 @@ add-t27 c =
     let at-start = take-to-start took in
     omega (
       arith,
-      append-version _ _ _ again.append-slot2.ensures.0,
-      append-version _ _ _ joined.append-slot.ensures.0,
-      taken-version _ _ _ took.take.ensures,
-      at-start.pre.0.version-fits,
+      append_version _ _ _ again.append-slot2.ensures.0,
+      append_version _ _ _ joined.append-slot.ensures.0,
+      taken_version _ _ _ took.take.ensures,
+      at-start.pre.0.version_fits,
     )
 
 returns : tie.Need-returns

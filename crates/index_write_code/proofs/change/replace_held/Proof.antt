@@ -3,7 +3,7 @@ use mathlib.Core.Path.{◌∙◌}
 use native.Mathlib.Omega.{arith}
 use lib.ListN.{length-set}
 use borrow.Author.Rules.{rules}
-use Rattle.index.proofs.Writes.{taken-last, taken-version, append-version, replace-held}
+use Rattle.index.proofs.Writes.{taken_last, taken_version, append_version, replace-held}
 use Rattle.index_write_code.proofs.change.replace_held.Statement.{statement}
 use Rattle.index_write_code.proofs.change.replace_held.Tie as tie
 
@@ -24,7 +24,7 @@ append-slot-requires c κs =
     let at-start = take-to-start took in
     let given = at-start.pre in (
       rw (linked.link.auto.1.0, length-set) given.old-in,
-      rw (linked.link.auto.1.0, length-set) (taken-last _ _ _ took.take.ensures given.last-in),
+      rw (linked.link.auto.1.0, length-set) (taken_last _ _ _ took.take.ensures given.last_in),
     )
 
 add-t26 : tie.Need-overflow-add-t26
@@ -34,9 +34,9 @@ add-t26 c =
     let at-start = take-to-start took in
     omega (
       arith,
-      append-version _ _ _ joined.append-slot.ensures.0,
-      taken-version _ _ _ took.take.ensures,
-      at-start.pre.version-fits,
+      append_version _ _ _ joined.append-slot.ensures.0,
+      taken_version _ _ _ took.take.ensures,
+      at-start.pre.version_fits,
     )
 
 same-length-2 : tie.Need-same-length-2

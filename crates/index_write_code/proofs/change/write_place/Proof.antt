@@ -1,7 +1,7 @@
 -- `index_write_code::change::write_place` meets its contract. Assumes nothing.
 use mathlib.Core.Path.{sym}
 use borrow.Author.Rules.{rules}
-use Rattle.index.specs.inner.Parts.{writeAt, liveAt}
+use Rattle.index.specs.inner.Parts.{write_at, live_at}
 use Rattle.index_write_code.proofs.change.write_place.Statement.{statement}
 use Rattle.index_write_code.proofs.change.write_place.Tie as tie
 
@@ -12,14 +12,14 @@ insert-new-requires : tie.Need-insert-new-requires
 insert-new-requires c κs = rw c.before.before.before.place2.given.1 at c.before.before.before.before.before.before.before.requires
 
 returns : tie.Need-returns
-unfolding writeAt liveAt
+unfolding write_at live_at
 returns c =
     let at-replace-held = c.before.before.before.before in
     let at_place = at-replace-held.before.before.before.before in
     rw at_place.place.given.1 at-replace-held.replace-held.ensures
 
 returns-2 : tie.Need-returns-2
-unfolding writeAt liveAt
+unfolding write_at live_at
 returns-2 c =
     let at-insert-new = c.before.before.before.before in
     let at-place2 = at-insert-new.before.before.before.before in

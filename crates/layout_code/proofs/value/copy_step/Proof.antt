@@ -2,7 +2,7 @@
 use mathlib.Core.Path.{refl, ap, ◌∙◌}
 use Prim.Native.Nat.{ℕ}
 use borrow.Author.Rules.{rules}
-use Rattle.words.specs.Word.{setBytes}
+use Rattle.words.specs.Word.{set_bytes}
 use Rattle.layout_code.proofs.value.copy_step.Statement.{statement}
 use Rattle.layout_code.proofs.value.copy_step.Tie as tie
 

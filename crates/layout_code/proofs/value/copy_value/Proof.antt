@@ -5,15 +5,15 @@ use native.Mathlib.Omega.{arith}
 use lib.ListN.{length}
 use borrow.Author.Rules.{rules}
 use Rattle.words.specs.Word.{word}
-use Rattle.layout.specs.Line.{lineA, lineB}
-use Rattle.layout.specs.Record.{valueByte, valueFront}
+use Rattle.layout.specs.Line.{line_a, line_b}
+use Rattle.layout.specs.Record.{value_byte, value_front}
 use Rattle.layout.proofs.Copies.{Copied, copied_none, copied_next, copied_all}
 use Rattle.layout_code.proofs.value.copy_value.Statement.{statement}
 use Rattle.layout_code.proofs.value.copy_value.Tie as tie
 
 abbrev invariant-loop : tie.invariant-loop
 invariant-loop image l s out₀ n i₀ out i =
-    (length out ≡ length out₀) × Copied (valueByte l (lineA (word image) s) (lineB (word image) s)) out₀ n i out
+    (length out ≡ length out₀) × Copied (value_byte l (line_a (word image) s) (line_b (word image) s)) out₀ n i out
 
 abbrev decreases-loop : tie.decreases-loop
 decreases-loop image l s out₀ n i₀ out i = n - 8 * i
@@ -43,7 +43,7 @@ loop-again c =
     )
 
 returns : tie.Need-returns invariant-loop decreases-loop
-unfolding valueFront
+unfolding value_front
 returns c = copied_all _ _ _ _ _ c.loop-test.false c.before.loop.invariant.1
 
 pub copy-value-spec : {M : Type 1} → statement M

@@ -1,6 +1,6 @@
 -- `layout_line_code::slot::slot_verdict` meets its contract. Assumes nothing.
 use borrow.Author.Rules.{rules}
-use Rattle.layout.proofs.Verdicts.{judged-slot}
+use Rattle.layout.proofs.Verdicts.{judged_slot}
 use Rattle.layout_line_code.proofs.slot.slot_verdict.Statement.{statement}
 use Rattle.layout_line_code.proofs.slot.slot_verdict.Tie as tie
 
@@ -11,4 +11,4 @@ slot-verdict-spec =
     (λ c. search rules) (λ c κs. search rules) (λ c. search rules) (λ c. search rules) (λ c κs. search rules)
     (λ c. search rules) (λ c. search rules) (λ c κs. search rules) (λ c. search rules) (λ c. search rules)
     (λ c κs. search rules) (λ c κs. search rules)
-    (λ c. search judged-slot))
+    (λ c. search judged_slot))

@@ -42,17 +42,17 @@ use denote.Triple.Table.{entered, cited}
 use denote.Triple.Walked.{says, Stays, stay_dropped, gave_slice, walk_of, Goes-dropped, Goes-gave_slice, Walks, ends_at, walked, walk_Meets}
 use denote.Exit.{yes}
 use Rattle.mir_steps.proofs.Lent.{lent_at, OwnsShr, dropped}
-use Rattle.mir_steps.proofs.Locals.{Blocks, block, envOf, allocates, freed, behind, sinks}
+use Rattle.mir_steps.proofs.Locals.{Blocks, block, env_of, allocates, freed, behind, sinks}
 use Rattle.mir_steps.proofs.Statements.{copied, field-of, sets}
 use Rattle.stores.specs.Store.{Store}
-use Rattle.stores.specs.Play.{wordNumbers, values, playEnd, playListResult}
+use Rattle.stores.specs.Play.{word_numbers, values, play_end, play_list_result}
 use Rattle.stores.specs.contracts.Store as T
 use Rattle.stores.proofs.Store.TheLaws as T'
 use Rattle.stores_list_code.specs.contracts.play.play_stores as g
 use Rattle.stores_list_code.proofs.play.play_stores.Symbol as g-def
 use Rattle.stores_list_code.proofs.play.play_stores.Symbol.{name as #play-stores}
 use Rattle.stores_list_code.proofs.play.play_stores.Met as g-thm
-use Rattle.lists_code.proofs.Lending.{list-shared, shared_back}
+use Rattle.lists_code.proofs.Lending.{list_shared, shared_back}
 use Rattle.lists_code.specs.contracts.lent.play_stores_lent.Key.{name as #play-stores-lent}
 use Rattle.lists_code.specs.contracts.lent.play_stores_lent as f
 use Rattle.lists_code.proofs.lent.play_stores_lent.Statement as stated
@@ -81,11 +81,11 @@ module _ {M : Type 1} {𝓤 : Ura M} (𝓛 : Logic 𝓤) (mem : Memory → SProp
   abbrev lv : Val
   lv = only (array_vals svals list)
 
-  list-size : length list ≡ 48
-  list-size = is-list.1.0.1
+  list_size : length list ≡ 48
+  list_size = is-list.1.0.1
 
   room : Room T.the_row (length list)
-  room = (omega (arith, list-size), omega (arith, list-size))
+  room = (omega (arith, list_size), omega (arith, list_size))
 
   abbrev a : MutBor (List ℕ) × (List Store × Unit {0})
   a = (lent_at u8 b₀ o₀ γ₀ image, (list, tt))
@@ -133,7 +133,7 @@ module _ {M : Type 1} {𝓤 : Ura M} (𝓛 : Logic 𝓤) (mem : Memory → SProp
         move ! (1 ∷ 0 ∷ []) $ join ! $ nothing ! $ move ! (1 ∷ 0 ∷ []) $ join ! $ done !
 
   abbrev Result : ℕ → List ℕ → Type 0
-  Result r zs = playEnd r zs ≡ playListResult image (wordNumbers list) (values list)
+  Result r zs = play_end r zs ≡ play_list_result image (word_numbers list) (values list)
 
   exits : (r : ℕ) (v : Val) → Is u32 r (v ∷ []) → (zs : List ℕ) → length zs ≡ length image → Result r zs → ent 𝓤 (⋆ 𝓛 (‵ (flft κ₀ q₀) ∷ ‵ (finally u8 γ₀
       zs) ∷ [])) (Post v)
@@ -164,7 +164,7 @@ module _ {M : Type 1} {𝓤 : Ura M} (𝓛 : Logic 𝓤) (mem : Memory → SProp
         sets ! 14 (agg ! (and_then ! (copied ! 12 refl) (and_then ! (lit ! tt) (no_more !)))) refl (tt, (tt, (record { fits = lit< tt }, tt))) $
         -- the list is lent
         lft_new ! tt (λ α. move ! (7 ∷ []) $
-        list-shared {𝓤 = 𝓤} {𝓛 = 𝓛} ! tt T.the_row (LL.makes T.the_type T'.the_plain 𝓛) tt svals 48 list (block body.locals bs 3) (α ∷ [])
+        list_shared {𝓤 = 𝓤} {𝓛 = 𝓛} ! tt T.the_row (LL.makes T.the_type T'.the_plain 𝓛) tt svals 48 list (block body.locals bs 3) (α ∷ [])
         is-list room (λ γ.
         -- [the list, lent, and the lender's part; its token; the locals without the list; the tokens and what the parameters own]
         move ! (18 ∷ 19 ∷ 2 ∷ 0 ∷ []) $ group ! 4 $ use1 𝓛 (raw ((Call 𝓛 mem run).pre (ghosts (block body.locals bs 3) α γ))) (passes (block body.locals

@@ -43,24 +43,24 @@ use denote.Triple.Table.{entered, cited}
 use denote.Triple.Walked.{says, Stays, stay_dropped, walk_of, Goes-dropped, Walks, ends_at, walked, walk_Meets}
 use denote.Exit.{yes}
 use Rattle.mir_steps.proofs.Lent.{lent_at, OwnsMut, dropped}
-use Rattle.mir_steps.proofs.Locals.{Blocks, block, envOf, allocates, freed, behind, sinks}
+use Rattle.mir_steps.proofs.Locals.{Blocks, block, env_of, allocates, freed, behind, sinks}
 use Rattle.mir_steps.proofs.Statements.{copied, sets}
 use Rattle.stores.specs.Store.{Store}
 use Rattle.stores.specs.contracts.Store as T
 use Rattle.stores.proofs.Store.TheLaws as T'
-use Rattle.log.specs.LogOutcome.{logAnswer, logListEnd}
-use Rattle.log.specs.Recover.{logRecoverListResult}
-use Rattle.log.specs.declared.LogOutcome.{LogOutcome}
-use Rattle.log.specs.contracts.LogOutcome as B
-use Rattle.log.proofs.LogOutcome.TheLaws as B'
+use Rattle.message_log.specs.LogOutcome.{log_answer, log_list_end}
+use Rattle.message_log.specs.Recover.{log_recover_list_result}
+use Rattle.message_log.specs.declared.LogOutcome.{LogOutcome}
+use Rattle.message_log.specs.contracts.LogOutcome as B
+use Rattle.message_log.proofs.LogOutcome.TheLaws as B'
 use Rattle.log_list_code.specs.contracts.recover_list as g
 use Rattle.log_list_code.proofs.recover_list.Symbol as g-def
-use Rattle.log_list_code.proofs.recover_list.Symbol.{name as #recover-list}
+use Rattle.log_list_code.proofs.recover_list.Symbol.{name as #recover_list}
 use Rattle.log_list_code.proofs.recover_list.Met as g-thm
 use Rattle.lists_code.specs.declared.lent.LogListed.{LogListed}
 use Rattle.lists_code.specs.contracts.lent.LogListed as D
 use Rattle.lists_code.proofs.lent.LogListed.TheLaws as D'
-use Rattle.lists_code.proofs.Lending.{list-lent, list_back}
+use Rattle.lists_code.proofs.Lending.{list_lent, list_back}
 use Rattle.lists_code.specs.contracts.lent.log_listed as h
 use Rattle.lists_code.proofs.lent.log_listed.Symbol as h-def
 use Rattle.lists_code.proofs.lent.log_listed.Symbol.{name as #log-listed}
@@ -96,11 +96,11 @@ module _ {M : Type 1} {𝓤 : Ura M} (𝓛 : Logic 𝓤) (mem : Memory → SProp
   abbrev lv : Val
   lv = only (array_vals svals list)
 
-  list-size : length list ≡ 48
-  list-size = is-list.1.0.1
+  list_size : length list ≡ 48
+  list_size = is-list.1.0.1
 
   room : Room T.the_row (length list)
-  room = (omega (arith, list-size), omega (arith, list-size))
+  room = (omega (arith, list_size), omega (arith, list_size))
 
   abbrev a : Bor (List ℕ) × (List Store × Unit {0})
   a = (lent_at u8 b₀ o₀ γ₀ area, (list, tt))
@@ -148,16 +148,16 @@ module _ {M : Type 1} {𝓤 : Ura M} (𝓛 : Logic 𝓤) (mem : Memory → SProp
         move ! (1 ∷ 0 ∷ []) $ join ! $ nothing ! $ move ! (1 ∷ 0 ∷ []) $ join ! $ done !
 
   abbrev Result : LogOutcome → List Store → Type 0
-  Result r zs = logListEnd (logAnswer r) zs ≡ logRecoverListResult area list
+  Result r zs = log_list_end (log_answer r) zs ≡ log_recover_list_result area list
 
   -- ---- `log_listed`
 
   module _ (r : LogOutcome) (w : Val) (is-r : Is B.the_row r (w ∷ [])) (zs : List Store) (is-zs : Is (Array T.the_row 48) zs (array_vals svals zs))
       (told : Result r zs) where
-    abbrev to-joined : (Joined 𝓛 mem run).Ghost
-    to-joined = ((tt, tt, tt, (r, (zs, tt)), (w ∷ [], (array_vals svals zs, tt))), tt)
+    abbrev to_joined : (Joined 𝓛 mem run).Ghost
+    to_joined = ((tt, tt, tt, (r, (zs, tt)), (w ∷ [], (array_vals svals zs, tt))), tt)
 
-    joins : ent 𝓤 (⋆ 𝓛 []) ((Joined 𝓛 mem run).pre to-joined)
+    joins : ent 𝓤 (⋆ 𝓛 []) ((Joined 𝓛 mem run).pre to_joined)
     joins =
         qed 𝓛 [] ∵ nothing ! $ nothing ! $
         owned ! (Array T.the_row 48) (Is (Array T.the_row 48)) (Array-Makes 𝓛 T.the_row (LL.makes T.the_type T'.the_plain 𝓛) 48) zs _ is-zs $ fjoin
@@ -172,11 +172,11 @@ module _ {M : Type 1} {𝓤 : Ura M} (𝓛 : Logic 𝓤) (mem : Memory → SProp
     exits m v is_m same =
         qed 𝓛 (‵ (flft κ₀ q₀) ∷ []) ∵
         suffices ! _ (ends_at 𝓛 f.ended stayed (f.clauses 𝓛 mem run) bound v m (tt, (tt, tt)) (tt, (tt, tt))) $
-        says ! (ap (λ (x : LogOutcome). logListEnd (logAnswer x) m.list) same.0 ∙ ap (logListEnd (logAnswer r)) same.1 ∙ told) $
+        says ! (ap (λ (x : LogOutcome). log_list_end (log_answer x) m.list) same.0 ∙ ap (log_list_end (log_answer r)) same.1 ∙ told) $
         nothing ! $ move ! (1 ∷ 0 ∷ []) $ join ! $ frame ! $
         dropped ! 2 $ owned ! D.the_row (Is D.the_row) (LL.makes D.the_type D'.the_plain 𝓛) m _ is_m $ move ! (1 ∷ 0 ∷ []) $ done !
 
-  module _ (C : Calls 𝓤 H) (Λ : Loops 𝓤 H) (fm : FmC 𝓤 H 𝓛.laws C) (known : Triple 𝓤 (C #recover-list) (Call 𝓛 mem run)) (known_joined : Triple 𝓤
+  module _ (C : Calls 𝓤 H) (Λ : Loops 𝓤 H) (fm : FmC 𝓤 H 𝓛.laws C) (known : Triple 𝓤 (C #recover_list) (Call 𝓛 mem run)) (known_joined : Triple 𝓤
       (C #log-listed) (Joined 𝓛 mem run)) where
     walk : ent 𝓤 (on_entry 𝓛 f.signature (κ₀, tt) (q₀, tt) a vals) (WpFn 𝓤 H C Λ code.function (s₀ ∷ lv ∷ []) Post)
     walk =
@@ -187,7 +187,7 @@ module _ {M : Type 1} {𝓤 : Ura M} (𝓛 : Logic 𝓤) (mem : Memory → SProp
         sets ! 12 (agg ! (and_then ! (copied ! 10 refl) (and_then ! (lit ! tt) (no_more !)))) refl (tt, (tt, (record { fits = lit< tt }, tt))) $
         -- the list is lent
         lft_new ! tt (λ α. move ! (7 ∷ []) $
-        list-lent {𝓤 = 𝓤} {𝓛 = 𝓛} ! tt T.the_row (LL.makes T.the_type T'.the_plain 𝓛) tt svals 48 list (block body.locals bs 3) (α ∷ []) is-list
+        list_lent {𝓤 = 𝓤} {𝓛 = 𝓛} ! tt T.the_row (LL.makes T.the_type T'.the_plain 𝓛) tt svals 48 list (block body.locals bs 3) (α ∷ []) is-list
         room (λ γ.
         -- [the list, lent, and the lender's part; its token; the locals without the list; the tokens and what the parameters own]
         move ! (18 ∷ 19 ∷ 2 ∷ 0 ∷ []) $ group ! 4 $ use1 𝓛 (raw ((Call 𝓛 mem run).pre (ghosts (block body.locals bs 3) α γ))) (passes (block body.locals
@@ -210,8 +210,8 @@ module _ {M : Type 1} {𝓤 : Ura M} (𝓛 : Logic 𝓤) (mem : Memory → SProp
         land ! (from ! (stop !)) (init ! 8 refl ((EL.lawful B.the_type B'.the_laws 𝓛 tt).typed r _ is-r).0) $
         sets ! 14 (of_opd ! (copied ! 6 refl)) refl (typed zs.1.0 is-zs).0 $
         -- `log_listed`
-        use0 𝓛 (raw ((Joined 𝓛 mem run).pre (to-joined r w is-r zs.1.0 is-zs told))) (joins r w is-r zs.1.0 is-zs told) $
-        calls_at ! fm (Joined 𝓛 mem run) known_joined (to-joined r w is-r zs.1.0 is-zs told) (and_then ! (copied ! 9 refl) (and_then ! (copied ! 15
+        use0 𝓛 (raw ((Joined 𝓛 mem run).pre (to_joined r w is-r zs.1.0 is-zs told))) (joins r w is-r zs.1.0 is-zs told) $
+        calls_at ! fm (Joined 𝓛 mem run) known_joined (to_joined r w is-r zs.1.0 is-zs told) (and_then ! (copied ! 9 refl) (and_then ! (copied ! 15
         refl) (no_more !))) (λ v.
         use1 𝓛 (later (some (λ (m : LogListed). (‵ ftrue ⊛ ‵ ((D.the_row).own_val m (v ∷ []))) ⊛ raw (ensured 𝓛 h.ended (h.clauses 𝓛 mem run) tt
         (r, (zs.1.0, tt)) tt m)))) (id⊢ 𝓤 _) $ await ! tt $ pick ! (λ m.
@@ -225,7 +225,7 @@ module _ {M : Type 1} {𝓤 : Ura M} (𝓛 : Logic 𝓤) (mem : Memory → SProp
         freed ! body.locals bs [] $ by ! (exits r w is-r zs.1.0 is-zs told m v is_m same))))))))))))))))
 
 module _ {M : Type 1} {𝓤 : Ura M} (𝓛 : Logic 𝓤) (mem : Memory → SProp 𝓤) (run : Routine → Fun 𝓤) (𝓣 : Tables 𝓤 𝓛.H)
-    (known : Triple 𝓤 (𝓣.C #recover-list) (Call 𝓛 mem run)) (known_joined : Triple 𝓤 (𝓣.C #log-listed) (Joined 𝓛 mem run)) where
+    (known : Triple 𝓤 (𝓣.C #recover_list) (Call 𝓛 mem run)) (known_joined : Triple 𝓤 (𝓣.C #log-listed) (Joined 𝓛 mem run)) where
   open 𝓛 use {H}
 
   walks : Walks 𝓛 f.ended stayed (WpFn 𝓤 H 𝓣.C 𝓣.Λ code.function) (f.clauses 𝓛 mem run)
@@ -253,5 +253,5 @@ recover-lent-spec 𝓤 𝓛 𝓜 𝓡 =
     entered 𝓤 𝓛.H (triple_of 𝓛 f.signature (f.spec 𝓛 𝓜.mem 𝓡.run))
     (tables 𝓤 𝓛.H 𝓜 𝓡 code.env).C (tables 𝓤 𝓛.H 𝓜 𝓡 code.env).Λ #recover-lent code.function (code.unfolded 𝓤 𝓛.H 𝓜 𝓡)
     (meets 𝓛 𝓜.mem 𝓡.run (tables_of 𝓤 𝓛.H 𝓜 (tables 𝓤 𝓛.H 𝓜 𝓡 code.env))
-    (cited 𝓤 𝓛.H (Call 𝓛 𝓜.mem 𝓡.run) 𝓜 𝓡 code.env #recover-list g-def.routine code.calls-log-list-code::recover-list (g-thm.met 𝓤 𝓛 𝓜 𝓡))
+    (cited 𝓤 𝓛.H (Call 𝓛 𝓜.mem 𝓡.run) 𝓜 𝓡 code.env #recover_list g-def.routine code.calls-log-list-code::recover_list (g-thm.met 𝓤 𝓛 𝓜 𝓡))
     (cited 𝓤 𝓛.H (Joined 𝓛 𝓜.mem 𝓡.run) 𝓜 𝓡 code.env #log-listed h-def.routine code.calls-lists-code::lent::log-listed (h_thm.met 𝓤 𝓛 𝓜 𝓡)))

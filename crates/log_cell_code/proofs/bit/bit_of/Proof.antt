@@ -1,6 +1,6 @@
 -- `log_cell_code::bit::bit_of` meets its contract. Assumes nothing.
 use borrow.Author.Rules.{rules}
-use Rattle.log.specs.Bit.{bit_at}
+use Rattle.message_log.specs.Bit.{bit_at}
 use Rattle.log_cell_code.proofs.bit.bit_of.Statement.{statement}
 use Rattle.log_cell_code.proofs.bit.bit_of.Tie as tie
 

@@ -2,13 +2,13 @@
 use mathlib.Core.Path.{refl}
 use native.Mathlib.Omega.{arith}
 use borrow.Author.Rules.{rules}
-use Rattle.log.specs.Append.{messageLine}
-use Rattle.log.proofs.Pairs.{Searching, search-start, search-passed, search-ended, search-equal, zeros-past}
+use Rattle.message_log.specs.Append.{message_line}
+use Rattle.message_log.proofs.Pairs.{Searching, search_start, search_passed, search_ended, search_equal, zeros_past}
 use Rattle.log_cell_code.proofs.bit.differing_word.Statement.{statement}
 use Rattle.log_cell_code.proofs.bit.differing_word.Tie as tie
 
 abbrev invariant-loop : tie.invariant-loop
-invariant-loop area n message i left₀ left = Searching area n (messageLine message i) left
+invariant-loop area n message i left₀ left = Searching area n (message_line message i) left
 
 abbrev decreases-loop : tie.decreases-loop
 decreases-loop area n message i left₀ left = left
@@ -21,8 +21,8 @@ differing-word-spec =
     decreases-loop
     (λ c. search rules)
     (λ c κs. search rules)
-    (λ c. zeros-past _ _ _ _ c.before.if1.true _ c.nonzero-word.ensures)
-    (λ c. search-start _ _ _)
+    (λ c. zeros_past _ _ _ _ c.before.if1.true _ c.nonzero-word.ensures)
+    (λ c. search_start _ _ _)
     (λ c. search rules)
     (λ c. search rules)
     (λ c. search rules)
@@ -31,8 +31,8 @@ differing-word-spec =
     (λ c. search rules)
     (λ c κs. search rules)
     (λ c. search rules)
-    (λ c. let at-loop = c.before.before.before.before in search-passed _ _ _ _ _ _ _ at-loop.loop.invariant (omega arith) refl
+    (λ c. let at-loop = c.before.before.before.before in search_passed _ _ _ _ _ _ _ at-loop.loop.invariant (omega arith) refl
     c.before.before.read_word.ensures c.before.padded-word.ensures c.if3.false)
-    (λ c. search-equal _ _ _ _ c.before.loop.invariant c.if2.true)
-    (λ c. let at-loop = c.before.before.before.before in search-ended _ _ _ _ _ _ _ at-loop.loop.invariant (omega arith) refl
+    (λ c. search_equal _ _ _ _ c.before.loop.invariant c.if2.true)
+    (λ c. let at-loop = c.before.before.before.before in search_ended _ _ _ _ _ _ _ at-loop.loop.invariant (omega arith) refl
     c.before.before.read_word.ensures c.before.padded-word.ensures c.if3.true))

@@ -3,7 +3,7 @@ use mathlib.Core.Path.{refl}
 use Prim.Native.Nat.{ℕ}
 use native.Mathlib.Omega.{arith}
 use borrow.Author.Rules.{rules}
-use Rattle.log.proofs.Pairs.{Searching, search-start, search-passed, search-ended, search-equal}
+use Rattle.message_log.proofs.Pairs.{Searching, search_start, search_passed, search_ended, search_equal}
 use Rattle.log_cell_code.proofs.bit.nonzero_word.Statement.{statement}
 use Rattle.log_cell_code.proofs.bit.nonzero_word.Tie as tie
 
@@ -19,11 +19,11 @@ nonzero-word-spec =
     (tie.spec
     invariant-loop
     decreases-loop
-    (λ c. search-start _ _ _)
+    (λ c. search_start _ _ _)
     (λ c. search rules)
     (λ c. search rules)
     (λ c κs. search rules)
     (λ c. search rules)
-    (λ c. search-passed _ _ _ _ _ _ _ c.before.before.before.loop.invariant (omega arith) refl c.before.read_word.ensures refl c.if2.false)
-    (λ c. search-equal _ _ _ _ c.before.loop.invariant (omega (arith, c.if1.true)))
-    (λ c. search-ended _ _ _ _ _ _ _ c.before.before.before.loop.invariant (omega arith) refl c.before.read_word.ensures refl c.if2.true))
+    (λ c. search_passed _ _ _ _ _ _ _ c.before.before.before.loop.invariant (omega arith) refl c.before.read_word.ensures refl c.if2.false)
+    (λ c. search_equal _ _ _ _ c.before.loop.invariant (omega (arith, c.if1.true)))
+    (λ c. search_ended _ _ _ _ _ _ _ c.before.before.before.loop.invariant (omega arith) refl c.before.read_word.ensures refl c.if2.true))

@@ -3,8 +3,8 @@ use native.Mathlib.Omega.{arith}
 use lib.Bits.{bit_xor}
 use lib.Count.{trailing_le}
 use borrow.Author.Rules.{rules}
-use Rattle.log.proofs.Differences.{last-place, bit-low}
-use Rattle.log.proofs.Pairs.{pair-sum}
+use Rattle.message_log.proofs.Differences.{last_place, bit_low}
+use Rattle.message_log.proofs.Pairs.{pair_sum}
 use Rattle.log_cell_code.proofs.bit.pair_of.Statement.{statement}
 use Rattle.log_cell_code.proofs.bit.pair_of.Tie as tie
 
@@ -16,13 +16,13 @@ pair-of-spec =
     (λ c. search rules)
     (λ c. search rules)
     (λ c. search rules)
-    (λ c κs. omega (arith, c.differing-bit.ensures, last-place 64 _ _ (omega arith) (omega arith) c.before.requires.0))
-    (λ c. omega (arith, c.bit-of.ensures, bit-low c.before.before.args.new c.before.differing-bit.result))
+    (λ c κs. omega (arith, c.differing-bit.ensures, last_place 64 _ _ (omega arith) (omega arith) c.before.requires.0))
+    (λ c. omega (arith, c.bit-of.ensures, bit_low c.before.before.args.new c.before.differing-bit.result))
     (λ c. omega (
       arith,
       c.bit-of.ensures,
-      bit-low c.before.before.args.new c.before.differing-bit.result,
+      bit_low c.before.before.args.new c.before.differing-bit.result,
       c.before.differing-bit.ensures,
       trailing_le 64 (bit_xor c.before.before.args.old c.before.before.args.new),
     ))
-    (λ c. pair-sum c.before.before.args.old c.before.before.args.new _ _ _ c.before.differing-bit.ensures c.bit-of.ensures))
+    (λ c. pair_sum c.before.before.args.old c.before.before.args.new _ _ _ c.before.differing-bit.ensures c.bit-of.ensures))

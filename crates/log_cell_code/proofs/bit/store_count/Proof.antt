@@ -2,7 +2,7 @@
 use mathlib.Core.Path.{sym}
 use native.Mathlib.Omega.{arith}
 use borrow.Author.Rules.{rules}
-use Rattle.log.proofs.Flexible.{count_none, count-some}
+use Rattle.message_log.proofs.Flexible.{count_none, count_some}
 use Rattle.log_cell_code.proofs.bit.store_count.Statement.{statement}
 use Rattle.log_cell_code.proofs.bit.store_count.Tie as tie
 
@@ -12,4 +12,4 @@ store-count-spec =
     (tie.spec
     (λ c. sym (count_none _ c.if1.true))
     (λ c. search rules)
-    (λ c. omega (arith, count-some c.before.args.place c.if1.false)))
+    (λ c. omega (arith, count_some c.before.args.place c.if1.false)))

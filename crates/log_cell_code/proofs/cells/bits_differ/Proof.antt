@@ -2,7 +2,7 @@
 use Prim.Native.Nat.{◌-◌}
 use borrow.Author.Rules.{rules}
 use Rattle.words.specs.Word.{word}
-use Rattle.log.proofs.CellWords.{Matching, match-start, match-hit, match-next, match-end}
+use Rattle.message_log.proofs.CellWords.{Matching, match_start, match_hit, match_next, match_end}
 use Rattle.log_cell_code.proofs.cells.bits_differ.Statement.{statement}
 use Rattle.log_cell_code.proofs.cells.bits_differ.Tie as tie
 
@@ -22,13 +22,13 @@ bits-differ-spec =
     (λ c. search rules)
     (λ c. search rules)
     (λ c κs. search rules)
-    (λ c. match-start _ _ _ c.read_word.ensures)
+    (λ c. match_start _ _ _ c.read_word.ensures)
     (λ c. search rules)
     (λ c. search rules)
     (λ c. search rules)
     (λ c κs. search rules)
-    (λ c. match-hit _ _ _ _ _ c.before.before.before.loop.invariant (search rules) c.before.pair-differs.ensures c.if1.true)
+    (λ c. match_hit _ _ _ _ _ c.before.before.before.loop.invariant (search rules) c.before.pair-differs.ensures c.if1.true)
     (λ c. search rules)
     (λ c. search rules)
-    (λ c. match-next _ _ _ _ _ c.before.before.before.loop.invariant (search rules) c.before.pair-differs.ensures c.if1.false)
-    (λ c. match-end _ _ _ _ c.before.loop.invariant c.loop-test.false))
+    (λ c. match_next _ _ _ _ _ c.before.before.before.loop.invariant (search rules) c.before.pair-differs.ensures c.if1.false)
+    (λ c. match_end _ _ _ _ c.before.loop.invariant c.loop-test.false))

@@ -1,6 +1,6 @@
 -- `log_cell_code::cells::greater_in` meets its contract. Assumes nothing.
 use borrow.Author.Rules.{rules}
-use Rattle.log.proofs.CellWords.{not-greater}
+use Rattle.message_log.proofs.CellWords.{not_greater}
 use Rattle.log_cell_code.proofs.cells.greater_in.Statement.{statement}
 use Rattle.log_cell_code.proofs.cells.greater_in.Tie as tie
 
@@ -12,7 +12,7 @@ greater-in-spec =
     (λ c. search rules)
     (λ c. search rules)
     (λ c κs. search rules)
-    (λ c. not-greater _ _ _ _ _ c.before.read_word.ensures c.if1.true)
+    (λ c. not_greater _ _ _ _ _ c.before.read_word.ensures c.if1.true)
     (λ c κs. search rules)
     (λ c κs. search rules)
     (λ c. search rules))

@@ -3,7 +3,7 @@ use mathlib.Core.Path.{refl}
 use native.Mathlib.Omega.{arith}
 use borrow.Author.Rules.{rules}
 use Rattle.words.specs.Word.{word}
-use Rattle.log.proofs.CellWords.{Raising, raise-start, raise-next, raise-end}
+use Rattle.message_log.proofs.CellWords.{Raising, raise_start, raise_next, raise_end}
 use Rattle.log_cell_code.proofs.cells.highest_number.Statement.{statement}
 use Rattle.log_cell_code.proofs.cells.highest_number.Tie as tie
 
@@ -19,9 +19,9 @@ highest-number-spec =
     (tie.spec
     invariant-loop
     decreases-loop
-    (λ c. raise-start _ _)
+    (λ c. raise_start _ _)
     (λ c. search rules)
     (λ c κs. record { all = c.before.before.before.requires; one = omega (arith, c.before.loop.invariant.left) })
     (λ c. search rules)
-    (λ c. raise-next _ _ _ _ _ _ c.before.before.loop.invariant (search rules) refl c.greater-in.ensures)
-    (λ c. raise-end _ _ _ _ c.before.loop.invariant c.loop-test.false))
+    (λ c. raise_next _ _ _ _ _ _ c.before.before.loop.invariant (search rules) refl c.greater-in.ensures)
+    (λ c. raise_end _ _ _ _ c.before.loop.invariant c.loop-test.false))

@@ -1,7 +1,7 @@
 -- `log_code::appending::append_after` meets its contract. Assumes nothing.
 use borrow.Author.Rules.{rules}
-use Rattle.log.proofs.Plans.{append-refused, append-taken}
-use Rattle.log.specs.LogOutcome.{logAnswer}
+use Rattle.message_log.proofs.Plans.{append_refused, append_taken}
+use Rattle.message_log.specs.LogOutcome.{log_answer}
 use Rattle.log_code.proofs.appending.append_after.Statement.{statement}
 use Rattle.log_code.proofs.appending.append_after.Tie as tie
 
@@ -10,14 +10,14 @@ abbrev fill-message-to-else1 : tie.After-fill-message → tie.Else1
 fill-message-to-else1 at = at.before.before.before
 
 pub append-after-spec : {M : Type 1} → statement M
-unfolding logAnswer
+unfolding log_answer
 append-after-spec =
     tie.close
     (tie.spec
     (λ c κs. search rules)
-    (λ c. append-refused _ _ _ _ _ _ _ _ _ _ c.before.append-plan.ensures c.if1.true)
+    (λ c. append_refused _ _ _ _ _ _ _ _ _ _ c.before.append-plan.ensures c.if1.true)
     (λ c κs. (c.before.before.before.append-plan.ensures.ready c.before.before.if1.false).room)
     (λ c. search rules)
     (λ c. search rules)
-    (λ c. let at-fill-message = c.before.before.before.before in let at-else1 = fill-message-to-else1 at-fill-message in append-taken _ _ _ _ _ _ _ _ _ _
+    (λ c. let at-fill-message = c.before.before.before.before in let at-else1 = fill-message-to-else1 at-fill-message in append_taken _ _ _ _ _ _ _ _ _ _
     at-else1.before.append-plan.ensures at-else1.if1.left _ _ at-fill-message.fill-message.ensures))

@@ -1,6 +1,6 @@
 -- `log_code::reading::message_part` meets its contract. Assumes nothing.
 use borrow.Author.Rules.{rules}
-use Rattle.log.proofs.Readings.{part-is}
+use Rattle.message_log.proofs.Readings.{part_is}
 use Rattle.log_code.proofs.reading.message_part.Statement.{statement}
 use Rattle.log_code.proofs.reading.message_part.Tie as tie
 
@@ -18,4 +18,4 @@ message-part-spec =
     (λ c. search rules)
     (λ c. search rules)
     (λ c. search rules)
-    (λ c. part-is _ _ _ c.before.read_word.ensures))
+    (λ c. part_is _ _ _ c.before.read_word.ensures))

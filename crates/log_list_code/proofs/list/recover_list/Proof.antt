@@ -42,24 +42,24 @@ use denote.Triple.Clauses.{Lasts, ensured, lasts}
 use denote.Triple.Table.{entered, cited}
 use denote.Triple.Walked.{says, Stays, stay_dropped, gave_slice, walk_of, Goes-dropped, Goes-gave_slice, Walks, ends_at, walked, walk_Meets}
 use denote.Exit.{yes}
-use Rattle.mir_steps.proofs.Lent.{lent_at, OwnsMut, number-owned}
-use Rattle.mir_steps.proofs.Locals.{Blocks, block, envOf, Frame, allocates, freed, behind, sinks}
+use Rattle.mir_steps.proofs.Lent.{lent_at, OwnsMut, number_owned}
+use Rattle.mir_steps.proofs.Locals.{Blocks, block, env_of, Frame, allocates, freed, behind, sinks}
 use Rattle.mir_steps.proofs.Statements.{copied, field-of, sets}
 use Rattle.words.specs.Word.{word}
 use Rattle.stores.specs.Store.{Store}
-use Rattle.stores.specs.inner.List.{storesPut}
+use Rattle.stores.specs.inner.List.{stores_put}
 use Rattle.stores.specs.contracts.Store as T
-use Rattle.log.specs.Area.{cells_in}
-use Rattle.log.specs.LogOutcome.{logAnswer, logListEnd}
-use Rattle.log.specs.Message.{highest}
-use Rattle.log.specs.Recover.{recoveryStores, logRecoverFault, logRecoverListResult}
-use Rattle.log.specs.inner.List.{StoresMade}
-use Rattle.log.specs.declared.RecoveryMade.{RecoveryMade}
-use Rattle.log.specs.contracts.LogOutcome as B
-use Rattle.log.proofs.LogOutcome.TheLaws as B'
-use Rattle.log.specs.contracts.RecoveryMade as D
-use Rattle.log.proofs.RecoveryMade.TheLaws as D'
-use Rattle.log.proofs.Lists.{in_list}
+use Rattle.message_log.specs.Area.{cells_in}
+use Rattle.message_log.specs.LogOutcome.{log_answer, log_list_end}
+use Rattle.message_log.specs.Message.{highest}
+use Rattle.message_log.specs.Recover.{recovery_stores, log_recover_fault, log_recover_list_result}
+use Rattle.message_log.specs.inner.List.{StoresMade}
+use Rattle.message_log.specs.declared.RecoveryMade.{RecoveryMade}
+use Rattle.message_log.specs.contracts.LogOutcome as B
+use Rattle.message_log.proofs.LogOutcome.TheLaws as B'
+use Rattle.message_log.specs.contracts.RecoveryMade as D
+use Rattle.message_log.proofs.RecoveryMade.TheLaws as D'
+use Rattle.message_log.proofs.Lists.{in_list}
 use Rattle.stores_list_code.proofs.Puts.{Put, Arrays, puts}
 use Rattle.stores_list_code.proofs.list.fill_store_list.Symbol as put-def
 use Rattle.stores_list_code.proofs.list.fill_store_list.Symbol.{name as #fill-store-list}
@@ -117,11 +117,11 @@ module _ {M : Type 1} {𝓤 : Ura M} (𝓛 : Logic 𝓤) (mem : Memory → SProp
 
   -- ---- `recovery_made`
 
-  abbrev made-args : Bor (List ℕ) × (ℕ × Unit {0})
-  made-args = (lent_at u8 b₀ o₀ γ₀ area, (length list, tt))
+  abbrev made_args : Bor (List ℕ) × (ℕ × Unit {0})
+  made_args = (lent_at u8 b₀ o₀ γ₀ area, (length list, tt))
 
   abbrev to_made : (Made 𝓛 mem run).Ghost
-  to_made = (((κ₀, tt), (q₀, tt), tt, made-args, (s₀ ∷ [], (vint w64 (length list) ∷ [], tt))), tt)
+  to_made = (((κ₀, tt), (q₀, tt), tt, made_args, (s₀ ∷ [], (vint w64 (length list) ∷ [], tt))), tt)
 
   abbrev Owned : Item 𝓤
   Owned = ‵ (owns (ShrSlice (named 0) κ₀ u8 ∷ MutSlice (named 1) κ T.the_row ∷ []) a vals)
@@ -129,12 +129,12 @@ module _ {M : Type 1} {𝓤 : Ura M} (𝓛 : Logic 𝓤) (mem : Memory → SProp
   abbrev List' : Item 𝓤
   List' = ‵ (OwnsMut T.the_row κ b o γ list (s ∷ [])) ⊛ ‵ (flft κ q)
 
-  goes-made : ent 𝓤 (⋆ 𝓛 (Tokens ∷ Owned ∷ [])) (⋆ 𝓛 (raw ((Made 𝓛 mem run).pre to_made) ∷ List' ∷ []))
-  goes-made =
+  goes_made : ent 𝓤 (⋆ 𝓛 (Tokens ∷ Owned ∷ [])) (⋆ 𝓛 (raw ((Made 𝓛 mem run).pre to_made) ∷ List' ∷ []))
+  goes_made =
       qed 𝓛 (Tokens ∷ Owned ∷ []) ∵
       -- what the parameters own, one by one, and the list's length in its place
       move ! (1 ∷ []) $ fsplit ! $ move ! (1 ∷ []) $ fsplit ! $
-      move ! (1 ∷ []) $ number-owned ! w64 (length list) room.0 $ fjoin ! $ move ! (2 ∷ 0 ∷ []) $ fjoin ! $
+      move ! (1 ∷ []) $ number_owned ! w64 (length list) room.0 $ fjoin ! $ move ! (2 ∷ 0 ∷ []) $ fjoin ! $
       -- the tokens, one by one, and those of what is read
       move ! (2 ∷ []) $ split ! $ move ! (1 ∷ []) $ split ! $
       move ! (2 ∷ 1 ∷ []) $ join ! $
@@ -144,8 +144,8 @@ module _ {M : Type 1} {𝓤 : Ura M} (𝓛 : Logic 𝓤) (mem : Memory → SProp
 
   abbrev Result : RecoveryMade → Type 0
   Result m =
-      StoresMade 1000 (length list) (logRecoverFault area (length list) (length list)) (highest (cells_in area) (word area))
-      (recoveryStores (cells_in area) (word area)) m.answer m.stored m.at m.value
+      StoresMade 1000 (length list) (log_recover_fault area (length list) (length list)) (highest (cells_in area) (word area))
+      (recovery_stores (cells_in area) (word area)) m.answer m.stored m.at m.value
 
   module _ (m : RecoveryMade) (is : Is D.the_row m (LL.vals D.the_type D'.the_laws m)) (made-it : Result m) where
     abbrev mv : Val
@@ -154,8 +154,8 @@ module _ {M : Type 1} {𝓤 : Ura M} (𝓛 : Logic 𝓤) (mem : Memory → SProp
     abbrev av : Val
     av = EL.val B.the_type B'.the_laws m.answer
 
-    is-answer : Is B.the_row m.answer (av ∷ [])
-    is-answer = (LL.owed D.the_type D'.the_laws m _ is).0
+    is_answer : Is B.the_row m.answer (av ∷ [])
+    is_answer = (LL.owed D.the_type D'.the_laws m _ is).0
 
     -- the two arrays, as the struct's machine value has them
     abbrev at : List ℕ
@@ -175,15 +175,15 @@ module _ {M : Type 1} {𝓤 : Ura M} (𝓛 : Logic 𝓤) (mem : Memory → SProp
         record {
           few = lit< tt;
           is_at = is_at;
-          is-words = is-value;
+          is_words = is-value;
           fits = (LL.owed D.the_type D'.the_laws m _ is).1.0.1;
-          in-room = made-it.in-room;
-          in-arrays
-              = made-it.in-arrays;
+          in_room = made-it.in_room;
+          in_arrays
+              = made-it.in_arrays;
         }
 
-    ends : (zs : List Store) → zs ≡ storesPut at value m.stored list → logListEnd (logAnswer m.answer) zs ≡ logRecoverListResult area list
-    unfolding logRecoverListResult
+    ends : (zs : List Store) → zs ≡ stores_put at value m.stored list → log_list_end (log_answer m.answer) zs ≡ log_recover_list_result area list
+    unfolding log_recover_list_result
     ends zs e = in_list _ _ _ _ _ _ _ _ _ at value made-it (map-id m.at) (map-id m.value) is_at.1.0.1 is-value.1.0.1 list zs e
 
     -- ---- what is had at exit
@@ -191,14 +191,14 @@ module _ {M : Type 1} {𝓤 : Ura M} (𝓛 : Logic 𝓤) (mem : Memory → SProp
     abbrev Left : List Store → List (Item 𝓤)
     Left zs = Read ∷ ‵ (flft κ q) ∷ ‵ (finally T.the_row γ zs) ∷ []
 
-    exits : (zs : List Store) → zs ≡ storesPut at value m.stored list → length zs ≡ length list → ent 𝓤 (⋆ 𝓛 (Left zs)) (Post av)
+    exits : (zs : List Store) → zs ≡ stores_put at value m.stored list → length zs ≡ length list → ent 𝓤 (⋆ 𝓛 (Left zs)) (Post av)
     exits zs e ez =
         qed 𝓛 (Left zs) ∵
         suffices ! _ (ends_at 𝓛 f.ended stayed (f.clauses 𝓛 mem run) bound av m.answer (tt, (zs, tt)) (tt, (ez, tt))) $
         says ! (ends zs e) $
         split ! $ move ! (2 ∷ 1 ∷ []) $ join ! $ move ! (1 ∷ 0 ∷ []) $ join ! $ frame ! $
         nothing ! $ move ! (1 ∷ 0 ∷ []) $ fjoin ! $ nothing ! $ fjoin ! $
-        owned ! B.the_row (Is B.the_row) (EL.makes B.the_type B'.the_plain 𝓛) m.answer _ is-answer $ move ! (1 ∷ 0 ∷ []) $ done !
+        owned ! B.the_row (Is B.the_row) (EL.makes B.the_type B'.the_plain 𝓛) m.answer _ is_answer $ move ! (1 ∷ 0 ∷ []) $ done !
 
     module _ (C : Calls 𝓤 H) (Λ : Loops 𝓤 H) (fm : FmC 𝓤 H 𝓛.laws C) (known-put : Triple 𝓤 (C #fill-store-list) (Put 𝓛 mem run))
         (bs : Blocks body.locals) where
@@ -206,7 +206,7 @@ module _ {M : Type 1} {𝓤 : Ura M} (𝓛 : Logic 𝓤) (mem : Memory → SProp
       abbrev held : List (Option Val)
       held = none ∷ present s₀ ∷ present s ∷ present mv ∷ none ∷ none ∷ present (vint w64 (length list)) ∷ []
 
-      rest : Sq 𝓛 (Frame 𝓤 body.locals bs held ++ (Read ∷ List' ∷ [])) (runs C Λ (envOf 𝓤 H body.locals bs) body.t-3 (at_ret (envOf 𝓤 H body.locals bs) Post))
+      rest : Sq 𝓛 (Frame 𝓤 body.locals bs held ++ (Read ∷ List' ∷ [])) (runs C Λ (env_of 𝓤 H body.locals bs) body.t-3 (at_ret (env_of 𝓤 H body.locals bs) Post))
       rest =
           sets ! 8 (of_opd ! (field-of ! 6 2 refl refl refl)) refl ((Array-Lawful 𝓛 u32 (uint_Lawful 𝓛 w32) 1000).typed at _ is_at).0 $
           sets ! 10 (of_opd ! (field-of ! 6 3 refl refl refl)) refl ((Array-Lawful 𝓛 u64 (uint_Lawful 𝓛 w64) 1000).typed value _ is-value).0 $
@@ -226,7 +226,7 @@ module _ {M : Type 1} {𝓤 : Ura M} (𝓛 : Logic 𝓤) (mem : Memory → SProp
           land ! (from ! (stop !)) (init ! 16 refl unit-typed.0) $
           -- the arrays stand among the locals again
           move ! (2 ∷ 3 ∷ []) $ behind ! 2 $ sinks ! 9 $ sinks ! 10 $
-          sets ! 0 (of_opd ! (field-of ! 6 0 refl refl refl)) refl ((EL.lawful B.the_type B'.the_laws 𝓛 tt).typed m.answer _ is-answer).0 $
+          sets ! 0 (of_opd ! (field-of ! 6 0 refl refl refl)) refl ((EL.lawful B.the_type B'.the_laws 𝓛 tt).typed m.answer _ is_answer).0 $
           returns ! (look ! 0 refl) $
           forget ! 0 refl $ forget ! 2 refl $ forget ! 4 refl $ forget ! 6 refl $ forget ! 8 refl $ forget ! 10 refl $ forget ! 12 refl $ forget ! 14 refl $
           forget ! 16 refl $ forget ! 18 refl $ forget ! 20 refl $ forget ! 22 refl $ forget ! 24 refl $ forget ! 26 refl $
@@ -240,12 +240,12 @@ module _ {M : Type 1} {𝓤 : Ura M} (𝓛 : Logic 𝓤) (mem : Memory → SProp
         pass1 ! (init ! 2 refl (tt, (tt, (record { fits = room₀.0 }, tt)))) $ pass1 ! (init ! 4 refl (tt, (tt, (record { fits = room.0 }, tt)))) $ pass0 ! $
         sets ! 12 (of_opd ! (field-of ! 4 1 refl refl refl)) refl (tt, record { fits = room.0 }) $
         -- `recovery_made`
-        move ! (28 ∷ 29 ∷ []) $ use2 𝓛 (raw ((Made 𝓛 mem run).pre to_made) ⊛ List') goes-made $ split ! $
+        move ! (28 ∷ 29 ∷ []) $ use2 𝓛 (raw ((Made 𝓛 mem run).pre to_made) ⊛ List') goes_made $ split ! $
         calls_at ! fm (Made 𝓛 mem run) known-made to_made (and_then ! (copied ! 4 refl) (and_then ! (copied ! 14 refl) (no_more !))) (λ w.
         use1 𝓛 (later (some (λ (m : RecoveryMade). (Read ⊛ ‵ ((D.the_row).own_val m (w ∷ []))) ⊛ raw
-        (ensured 𝓛 made.ended (made.clauses 𝓛 mem run) (κ₀, tt) made-args tt m)))) (id⊢ 𝓤 _) $ await ! tt $ pick ! (λ m.
+        (ensured 𝓛 made.ended (made.clauses 𝓛 mem run) (κ₀, tt) made_args tt m)))) (id⊢ 𝓤 _) $ await ! tt $ pick ! (λ m.
         split ! $ move ! (1 ∷ []) $ use1 𝓛
-        (some (λ (ws : Lasts made.ended (κ₀, tt) made-args). ‵ (lasts made.ended (κ₀, tt) made-args ws) ⊛ raw (fact 𝓤 (Result m)))) (id⊢ 𝓤 _) $ pick ! (λ ws.
+        (some (λ (ws : Lasts made.ended (κ₀, tt) made_args). ‵ (lasts made.ended (κ₀, tt) made_args ws) ⊛ raw (fact 𝓤 (Result m)))) (id⊢ 𝓤 _) $ pick ! (λ ws.
         split ! $ move ! (1 ∷ []) $ heard ! (Result m) (λ made-it. drop ! $
         -- [the tokens and m; the list and its token; the locals]
         split ! $ move ! (1 ∷ []) $ facts ! D.the_row (Is D.the_row) (shows 𝓛 D.the_row) m (w ∷ []) (λ told.
@@ -279,6 +279,6 @@ recover-list-spec 𝓤 𝓛 𝓜 𝓡 =
     entered 𝓤 𝓛.H (triple_of 𝓛 f.signature (f.spec 𝓛 𝓜.mem 𝓡.run))
     (tables 𝓤 𝓛.H 𝓜 𝓡 code.env).C (tables 𝓤 𝓛.H 𝓜 𝓡 code.env).Λ #list code.function (code.unfolded 𝓤 𝓛.H 𝓜 𝓡)
     (meets 𝓛 𝓜.mem 𝓡.run (tables_of 𝓤 𝓛.H 𝓜 (tables 𝓤 𝓛.H 𝓜 𝓡 code.env))
-    (cited 𝓤 𝓛.H (Made 𝓛 𝓜.mem 𝓡.run) 𝓜 𝓡 code.env #made made-def.routine code.calls-log-list-code::made::recovery-made (made-thm.met 𝓤 𝓛 𝓜 𝓡))
+    (cited 𝓤 𝓛.H (Made 𝓛 𝓜.mem 𝓡.run) 𝓜 𝓡 code.env #made made-def.routine code.calls-log-list-code::made::recovery_made (made-thm.met 𝓤 𝓛 𝓜 𝓡))
     (cited 𝓤 𝓛.H (Put 𝓛 𝓜.mem 𝓡.run) 𝓜 𝓡 code.env #fill-store-list put-def.routine code.calls-stores-list-code::list::fill-store-list
     (put-thm.met 𝓤 𝓛 𝓜 𝓡)))

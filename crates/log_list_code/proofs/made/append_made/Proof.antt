@@ -3,7 +3,7 @@ use mathlib.Core.Path.{sym, ◌∙◌}
 use native.Mathlib.Omega.{arith}
 use borrow.Author.Rules.{rules}
 use Rattle.prelude.proofs.Lists.{front_length}
-use Rattle.log.proofs.Lists.{append-made}
+use Rattle.message_log.proofs.Lists.{append_made}
 use Rattle.log_list_code.proofs.made.append_made.Statement.{statement}
 use Rattle.log_list_code.proofs.made.append_made.Tie as tie
 
@@ -20,7 +20,7 @@ slice-aggregate-append-2 c = front_length _ _ (omega (arith, c.before.before.les
 returns : tie.Need-returns
 returns c =
     let at-lesser = append-to-lesser c.before.before.before in
-    append-made _ _ _ _ _ _ _ _ _ _ c.stored-count.ensures _
+    append_made _ _ _ _ _ _ _ _ _ _ c.stored-count.ensures _
     (sym (front_length _ _ (omega (arith, at-lesser.lesser.ensures))) ∙ at-lesser.lesser.ensures)
     (sym (front_length _ _ (omega (arith, at-lesser.lesser.ensures))) ∙ at-lesser.lesser.ensures) c.before.before.before.append.ensures
 

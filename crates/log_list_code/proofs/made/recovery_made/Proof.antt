@@ -3,7 +3,7 @@ use mathlib.Core.Path.{sym, ◌∙◌}
 use native.Mathlib.Omega.{arith}
 use borrow.Author.Rules.{rules}
 use Rattle.prelude.proofs.Lists.{front_length}
-use Rattle.log.proofs.Lists.{recovery-made}
+use Rattle.message_log.proofs.Lists.{recovery_made}
 use Rattle.log_list_code.proofs.made.recovery_made.Statement.{statement}
 use Rattle.log_list_code.proofs.made.recovery_made.Tie as tie
 
@@ -20,7 +20,7 @@ slice-aggregate-recover-log-2 c = front_length _ _ (omega (arith, c.before.befor
 returns : tie.Need-returns
 returns c =
     let at-lesser = recover-log-to-lesser c.before.before.before in
-    recovery-made _ _ _ _ _ _ _ _ _ _ c.stored-count.ensures
+    recovery_made _ _ _ _ _ _ _ _ _ _ c.stored-count.ensures
     (sym (front_length _ _ (omega (arith, at-lesser.lesser.ensures))) ∙ at-lesser.lesser.ensures)
     (sym (front_length _ _ (omega (arith, at-lesser.lesser.ensures))) ∙ at-lesser.lesser.ensures) c.before.before.before.recover-log.ensures
 

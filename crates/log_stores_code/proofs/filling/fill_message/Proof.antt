@@ -1,6 +1,6 @@
 -- `log_stores_code::filling::fill_message` meets its contract. Assumes nothing.
 use borrow.Author.Rules.{rules}
-use Rattle.log.proofs.Plans.{message-filled}
+use Rattle.message_log.proofs.Plans.{message_filled}
 use Rattle.log_stores_code.proofs.filling.fill_message.Statement.{statement}
 use Rattle.log_stores_code.proofs.filling.fill_message.Tie as tie
 
@@ -27,5 +27,5 @@ fill-message-spec =
     (λ c. search rules)
     (λ c. search rules)
     (λ c. let at-fill-payload = c.before.before.before.before in let at-fill-marked = fill-payload-to-fill-marked at-fill-payload in let at-read-word =
-    fill-marked-to-read-word at-fill-marked in let at-start = read-word-to-start at-read-word in message-filled _ _ _ _ _ _ _ _ _ _ _ _
-    at-read-word.read_word.ensures at-start.pre.pairs-are at-fill-marked.fill-marked.ensures at-fill-payload.fill-payload.ensures))
+    fill-marked-to-read-word at-fill-marked in let at-start = read-word-to-start at-read-word in message_filled _ _ _ _ _ _ _ _ _ _ _ _
+    at-read-word.read_word.ensures at-start.pre.pairs_are at-fill-marked.fill-marked.ensures at-fill-payload.fill-payload.ensures))

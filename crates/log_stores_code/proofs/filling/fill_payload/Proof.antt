@@ -4,9 +4,9 @@ use Prim.Native.Nat.{◌-◌}
 use native.Mathlib.Omega.{arith}
 use borrow.Author.Rules.{rules}
 use Rattle.words.specs.Word.{word}
-use Rattle.log.specs.Bit.{storeCount}
-use Rattle.log.proofs.Pairs.{pair-within}
-use Rattle.log.proofs.Plans.{Paying, pay-start, pay-next, pay-few, pay-room, pay-end}
+use Rattle.message_log.specs.Bit.{store_count}
+use Rattle.message_log.proofs.Pairs.{pair_within}
+use Rattle.message_log.proofs.Plans.{Paying, pay_start, pay_next, pay_few, pay_room, pay_end}
 use Rattle.log_stores_code.proofs.filling.fill_payload.Statement.{statement}
 use Rattle.log_stores_code.proofs.filling.fill_payload.Tie as tie
 
@@ -32,38 +32,38 @@ fill-payload-spec =
     (tie.spec
     invariant-loop
     decreases-loop
-    (λ c. pay-start _ _ _ _ _)
+    (λ c. pay_start _ _ _ _ _)
     (λ c. search rules)
     (λ c. search rules)
     (λ c. search rules)
     (λ c κs. let at-start = loop-to-start c.before in record { room = omega (arith, at-start.pre.inside); payload = omega arith })
-    (λ c κs. pair-within _ _ _ _ _ c.differing-word.ensures)
+    (λ c κs. pair_within _ _ _ _ _ c.differing-word.ensures)
     (λ c κs. let at-loop = c.before.before.before.before.before in let start = loop-to-start at-loop in let inv = at-loop.loop.invariant in
-    let count-is = c.before.before.store-count.ensures ∙ ap storeCount c.before.before.before.differing-word.ensures in
+    let count_is = c.before.before.store-count.ensures ∙ ap store_count c.before.before.before.differing-word.ensures in
     record {
       room =
-          pay-room (word start.args.area.now) start.args.c start.args.message.now start.args.at.now start.args.value.now _ _ _ _ _ _
-          inv (search rules) refl count-is start.pre.room;
+          pay_room (word start.args.area.now) start.args.c start.args.message.now start.args.at.now start.args.value.now _ _ _ _ _ _
+          inv (search rules) refl count_is start.pre.room;
       few =
-          pay-few (word start.args.area.now) start.args.c start.args.message.now start.args.at.now start.args.value.now _ _ _ _ _ _
-          inv (search rules) refl count-is;
+          pay_few (word start.args.area.now) start.args.c start.args.message.now start.args.at.now start.args.value.now _ _ _ _ _ _
+          inv (search rules) refl count_is;
       line_low = omega (arith, start.pre.cell);
       payload = omega arith;
     })
     (λ c. let at-store-count = fill-line-to-store-count (slice-known4-to-fill-line c) in let start = loop-to-start at-store-count.before.before.before in
     let inv = at-store-count.before.before.before.loop.inv in
-    let count-is = at-store-count.store-count.ensures ∙ ap storeCount at-store-count.before.differing-word.ensures in
+    let count_is = at-store-count.store-count.ensures ∙ ap store_count at-store-count.before.differing-word.ensures in
     omega (
       arith,
-      (pay-room (word start.args.area.now) start.args.c start.args.message.now start.args.at.now start.args.value.now _ _ _ _ _ _
-          inv (search rules) refl count-is start.pre.room).at_room,
+      (pay_room (word start.args.area.now) start.args.c start.args.message.now start.args.at.now start.args.value.now _ _ _ _ _ _
+          inv (search rules) refl count_is start.pre.room).at_room,
       inv.left.ats.size,
     ))
     (λ c. search rules)
     (λ c. search rules)
-    (λ c. let at-fill-line = slice-known4-to-fill-line c in let at-store-count = fill-line-to-store-count at-fill-line in pay-next _ _ _ _ _ _ _ _ _ _ _
+    (λ c. let at-fill-line = slice-known4-to-fill-line c in let at-store-count = fill-line-to-store-count at-fill-line in pay_next _ _ _ _ _ _ _ _ _ _ _
     at-store-count.before.before.before.loop.inv (search rules) refl
-    (at-store-count.store-count.ensures ∙ ap storeCount at-store-count.before.differing-word.ensures) _ _ at-fill-line.fill-line.ensures)
+    (at-store-count.store-count.ensures ∙ ap store_count at-store-count.before.differing-word.ensures) _ _ at-fill-line.fill-line.ensures)
     (λ c. c.before.loop.invariant.left.ats.size)
     (λ c. c.before.loop.invariant.left.vals.size)
-    (λ c. pay-end _ _ _ _ _ _ _ _ _ c.before.loop.invariant c.loop-test.false))
+    (λ c. pay_end _ _ _ _ _ _ _ _ _ c.before.loop.invariant c.loop-test.false))

@@ -3,7 +3,7 @@ use Prim.Native.Nat.{◌-◌}
 use native.Mathlib.Omega.{arith}
 use borrow.Author.Rules.{rules}
 use Rattle.words.specs.Word.{word}
-use Rattle.log.proofs.Recoveries.{Invalidation, invalidating-start, invalidating-next, invalidating-end, invalidating-room}
+use Rattle.message_log.proofs.Recoveries.{Invalidation, invalidating_start, invalidating_next, invalidating_end, invalidating_room}
 use Rattle.log_stores_code.proofs.invalidation.fill_invalidations.Statement.{statement}
 use Rattle.log_stores_code.proofs.invalidation.fill_invalidations.Tie as tie
 
@@ -26,17 +26,17 @@ fill-invalidations-spec =
     (tie.spec
     invariant-loop
     decreases-loop
-    (λ c. invalidating-start _ _ _ _ _)
+    (λ c. invalidating_start _ _ _ _ _)
     (λ c κs. let at-start = loop-to-start c.before.before.before in record {
       inside = omega (arith, at-start.pre.all.size);
       cell = omega (arith, at-start.pre.all.few);
-      room = invalidating-room _ _ _ _ _ _ _ _ _
+      room = invalidating_room _ _ _ _ _ _ _ _ _
           c.before.before.before.loop.invariant (search rules) at-start.pre.room;
     })
     (λ c. search rules)
     (λ c. search rules)
-    (λ c. let at-fill-invalidation = c.before.before.before.before in let at-loop = fill-invalidation-to-loop at-fill-invalidation in invalidating-next _ _
+    (λ c. let at-fill-invalidation = c.before.before.before.before in let at-loop = fill-invalidation-to-loop at-fill-invalidation in invalidating_next _ _
     _ _ _ _ _ _ _ _ _ _ at-loop.loop.inv (search rules) at-fill-invalidation.fill-invalidation.ensures)
     (λ c. c.before.loop.invariant.left.ats.size)
     (λ c. c.before.loop.invariant.left.vals.size)
-    (λ c. invalidating-end _ _ _ _ _ _ _ _ _ c.before.loop.invariant c.loop-test.false))
+    (λ c. invalidating_end _ _ _ _ _ _ _ _ _ c.before.loop.invariant c.loop-test.false))

@@ -2,7 +2,7 @@
 use mathlib.Core.Path.{refl}
 use native.Mathlib.Omega.{arith}
 use borrow.Author.Rules.{rules}
-use Rattle.log.proofs.Plans.{number-low, plan-no-area, plan-no-message, plan-no-number, cell_room, plan-done}
+use Rattle.message_log.proofs.Plans.{number_low, plan_no_area, plan_no_message, plan_no_number, cell_room, plan_done}
 use Rattle.log_stores_code.proofs.planning.append_plan.Statement.{statement}
 use Rattle.log_stores_code.proofs.planning.append_plan.Tie as tie
 
@@ -25,17 +25,17 @@ append-plan-spec =
     (tie.spec
     (λ c κs. search rules)
     (λ c κs. search rules)
-    (λ c. plan-no-area _ _ _ _ _ _ c.before.before.cell-count.ensures _ _ _ _ _ c.before.if1.true c.no-plan.ensures)
+    (λ c. plan_no_area _ _ _ _ _ _ c.before.before.cell-count.ensures _ _ _ _ _ c.before.if1.true c.no-plan.ensures)
     (λ c κs. search rules)
     (λ c κs. search rules)
-    (λ c. let at-message-fault = c.before.before in plan-no-message _ _ _ _ _ _ (message-fault-to-cell-count at-message-fault).cell-count.ensures
+    (λ c. let at-message-fault = c.before.before in plan_no_message _ _ _ _ _ _ (message-fault-to-cell-count at-message-fault).cell-count.ensures
     at-message-fault.before.if1.false _ at-message-fault.message-fault.ensures _ _ _ _ _ c.before.if2.true c.no-plan2.ensures)
     (λ c κs. search rules)
     (λ c κs. search rules)
-    (λ c. let at-number-fault = c.before.before in let at-message-fault = number-fault-to-message-fault at-number-fault in plan-no-number _ _ _ _ _ _
+    (λ c. let at-number-fault = c.before.before in let at-message-fault = number-fault-to-message-fault at-number-fault in plan_no_number _ _ _ _ _ _
     (message-fault-to-cell-count at-message-fault).cell-count.ensures at-message-fault.before.if1.left _ at-message-fault.message-fault.ensures
     at-number-fault.before.if2.false _ at-number-fault.number-fault.ensures _ _ _ _ _ c.before.if3.true c.no-plan3.ensures)
-    (λ c. omega (arith, number-low _ _ c.before.number-fault.ensures c.if3.false))
+    (λ c. omega (arith, number_low _ _ c.before.number-fault.ensures c.if3.false))
     (λ c. search rules)
     (λ c κs. let at-message-fault = number-fault-to-message-fault c.before in let at-start = cell-count-to-start
     (message-fault-to-cell-count at-message-fault) in cell_room at-start.args.area.now at-start.args.last at-start.args.message.now
@@ -44,6 +44,6 @@ append-plan-spec =
     (λ c. search rules)
     (λ c κs. search rules)
     (λ c. let at-else3 = payload-plan-to-else3 c.before.before in let at-number-fault = at-else3.before in let at-message-fault =
-    number-fault-to-message-fault at-number-fault in plan-done _ _ _ _ _ _ (message-fault-to-cell-count at-message-fault).cell-count.ensures
+    number-fault-to-message-fault at-number-fault in plan_done _ _ _ _ _ _ (message-fault-to-cell-count at-message-fault).cell-count.ensures
     at-message-fault.before.if1.left _ at-message-fault.message-fault.ensures at-number-fault.before.if2.left _
     at-number-fault.number-fault.ensures at-else3.if3.left _ refl _ _ c.before.before.payload-plan.ensures _ c.short-fault.ensures))

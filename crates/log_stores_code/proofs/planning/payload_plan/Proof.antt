@@ -2,11 +2,11 @@
 use mathlib.Core.Path.{refl, ap, ◌∙◌}
 use native.Mathlib.Omega.{arith}
 use borrow.Author.Rules.{rules}
-use Rattle.words.proofs.Laws.{word-range}
+use Rattle.words.proofs.Laws.{word_range}
 use Rattle.words.specs.Word.{word}
-use Rattle.log.specs.Bit.{storeCount}
-use Rattle.log.proofs.Pairs.{pair-within}
-use Rattle.log.proofs.Plans.{Planning, plan-start, plan-next, plan-room, count_room, plan-end}
+use Rattle.message_log.specs.Bit.{store_count}
+use Rattle.message_log.proofs.Pairs.{pair_within}
+use Rattle.message_log.proofs.Plans.{Planning, plan_start, plan_next, plan_room, count_room, plan_end}
 use Rattle.log_stores_code.proofs.planning.payload_plan.Statement.{statement}
 use Rattle.log_stores_code.proofs.planning.payload_plan.Tie as tie
 
@@ -26,7 +26,7 @@ payload-plan-spec =
     (tie.spec
     invariant-loop
     decreases-loop
-    (λ c. plan-start _ _ _)
+    (λ c. plan_start _ _ _)
     (λ c. search rules)
     (λ c. search rules)
     (λ c. search rules)
@@ -39,25 +39,25 @@ payload-plan-spec =
     })
     (λ c. let at-shared-slice-known2 = c.before.before.before.before in let start = at-shared-slice-known2.before.before in omega (
       arith,
-      plan-room (word start.args.area.now) start.args.c start.args.message.now _ _ _ _
-          (λ j. word-range start.args.area.now j (λ x. (at-shared-slice-known2.before.shared-slice-known.given x).fits))
+      plan_room (word start.args.area.now) start.args.c start.args.message.now _ _ _ _
+          (λ j. word_range start.args.area.now j (λ x. (at-shared-slice-known2.before.shared-slice-known.given x).fits))
           (λ x. (at-shared-slice-known2.shared-slice-known2.given x).fits)
           c.before.before.before.loop.invariant (search rules) _ _ c.line-pair.ensures,
     ))
     (λ c. let at-shared-slice-known2 = c.before.before.before.before in let start = at-shared-slice-known2.before.before in omega (
       arith,
-      plan-room (word start.args.area.now) start.args.c start.args.message.now _ _ _ _
-          (λ j. word-range start.args.area.now j (λ x. (at-shared-slice-known2.before.shared-slice-known.given x).fits))
+      plan_room (word start.args.area.now) start.args.c start.args.message.now _ _ _ _
+          (λ j. word_range start.args.area.now j (λ x. (at-shared-slice-known2.before.shared-slice-known.given x).fits))
           (λ x. (at-shared-slice-known2.shared-slice-known2.given x).fits)
           c.before.before.before.loop.invariant (search rules) _ _ c.line-pair.ensures,
     ))
-    (λ c κs. pair-within _ _ _ _ _ c.before.differing-word.ensures)
+    (λ c κs. pair_within _ _ _ _ _ c.before.differing-word.ensures)
     (λ c. let at-loop = store-count-to-loop c in let start = at-loop.before.before.before in omega (
       arith,
       count_room (word start.args.area.now) start.args.c start.args.message.now _ _ _ _ _ _ at-loop.loop.inv
-          (search rules) (c.store-count.ensures ∙ ap storeCount c.before.before.differing-word.ensures),
+          (search rules) (c.store-count.ensures ∙ ap store_count c.before.before.differing-word.ensures),
     ))
     (λ c. search rules)
-    (λ c. let at-loop = store-count-to-loop c in plan-next _ _ _ _ _ _ _ _ _ _ at-loop.loop.inv (search rules) refl refl
-    (c.store-count.ensures ∙ ap storeCount c.before.before.differing-word.ensures) c.before.line-pair.ensures)
-    (λ c. plan-end _ _ _ _ _ _ c.before.loop.invariant c.loop-test.false))
+    (λ c. let at-loop = store-count-to-loop c in plan_next _ _ _ _ _ _ _ _ _ _ at-loop.loop.inv (search rules) refl refl
+    (c.store-count.ensures ∙ ap store_count c.before.before.differing-word.ensures) c.before.line-pair.ensures)
+    (λ c. plan_end _ _ _ _ _ _ c.before.loop.invariant c.loop-test.false))

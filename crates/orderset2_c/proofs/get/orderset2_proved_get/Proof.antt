@@ -1,13 +1,13 @@
 -- `orderset2_c::get::orderset2_proved_get` meets its contract. Assumes nothing.
 use borrow.Author.Rules.{rules}
-use Rattle.exports.proofs.Calls.{get-called}
+use Rattle.exports.proofs.Calls.{get_called}
 use Rattle.orderset2_c.proofs.get.orderset2_proved_get.Statement.{statement}
 use Rattle.orderset2_c.proofs.get.orderset2_proved_get.Tie as tie
 
 returns : tie.Need-returns
 returns c =
     let at-get = c.before.before.before.before in
-    get-called _ _ _ _ at-get.get2.result _ at-get.get2.ensures.0 c.write-answer-got.ensures
+    get_called _ _ _ _ at-get.get2.result _ at-get.get2.ensures.0 c.write-answer-got.ensures
 
 pub orderset2-proved-get-spec : {M : Type 1} → statement M
 orderset2-proved-get-spec = tie.close (tie.spec (λ c κs. search rules) (λ c κs. search rules) (λ c. search rules) returns)

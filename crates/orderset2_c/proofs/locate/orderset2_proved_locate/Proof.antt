@@ -1,11 +1,11 @@
 -- `orderset2_c::locate::orderset2_proved_locate` meets its contract. Assumes nothing.
 use borrow.Author.Rules.{rules}
-use Rattle.exports.proofs.Calls.{locate-called}
+use Rattle.exports.proofs.Calls.{locate_called}
 use Rattle.orderset2_c.proofs.locate.orderset2_proved_locate.Statement.{statement}
 use Rattle.orderset2_c.proofs.locate.orderset2_proved_locate.Tie as tie
 
 returns : tie.Need-returns
-returns c = locate-called _ _ _ _ _ c.before.before.locate2.ensures c.write-answer-located.ensures
+returns c = locate_called _ _ _ _ _ c.before.before.locate2.ensures c.write-answer-located.ensures
 
 pub orderset2-proved-locate-spec : {M : Type 1} → statement M
 orderset2-proved-locate-spec = tie.close (tie.spec (λ c κs. search rules) (λ c κs. search rules) returns)

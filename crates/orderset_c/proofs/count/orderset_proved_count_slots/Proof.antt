@@ -6,7 +6,7 @@ use Rattle.orderset_c.proofs.count.orderset_proved_count_slots.Tie as tie
 returns : tie.Need-returns
 returns c =
     let at_count = c.before.before.before.before.before.before in
-    rw (← at_count.count-slots.ensures) (c.write-answer-counted.ensures _ _)
+    rw (← at_count.count_slots.ensures) (c.write-answer-counted.ensures _ _)
 
 pub orderset-proved-count-slots-spec : {M : Type 1} → statement M
 orderset-proved-count-slots-spec =

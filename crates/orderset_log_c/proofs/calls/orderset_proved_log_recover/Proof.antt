@@ -1,13 +1,13 @@
 -- `orderset_log_c::calls::orderset_proved_log_recover` meets its contract. Assumes nothing.
 use borrow.Author.Rules.{rules}
-use Rattle.prelude.specs.Answer.{refusalIn, givenOr}
-use Rattle.log.specs.LogOutcome.{logAnswer}
-use Rattle.log_exports.specs.Call.{handCall}
+use Rattle.prelude.specs.Answer.{refusal_in, given_or}
+use Rattle.message_log.specs.LogOutcome.{log_answer}
+use Rattle.log_exports.specs.Call.{hand_call}
 use Rattle.orderset_log_c.proofs.calls.orderset_proved_log_recover.Statement.{statement}
 use Rattle.orderset_log_c.proofs.calls.orderset_proved_log_recover.Tie as tie
 
 pub orderset-proved-log-recover-spec : {M : Type 1} → statement M
-unfolding refusalIn givenOr logAnswer handCall
+unfolding refusal_in given_or log_answer hand_call
 orderset-proved-log-recover-spec =
     tie.close
     (tie.spec

@@ -2,14 +2,14 @@
 use Prim.Native.Nat.{◌-◌}
 use native.Mathlib.Omega.{arith}
 use borrow.Author.Rules.{rules}
-use Rattle.prelude.proofs.Any.{Going, any-start, any-hit, any_next, any-end}
+use Rattle.prelude.proofs.Any.{Going, any_start, any_hit, any_next, any_end}
 use Rattle.recovery.specs.inner.Scan.{key_at}
-use Rattle.recovery.specs.inner.Decide.{keyTwice}
+use Rattle.recovery.specs.inner.Decide.{key_twice}
 use Rattle.recovery_judge_code.proofs.comparing.any_key_twice.Statement.{statement}
 use Rattle.recovery_judge_code.proofs.comparing.any_key_twice.Tie as tie
 
 abbrev invariant-loop : tie.invariant-loop
-invariant-loop ranks lows highs order n end i₀ i = Going (keyTwice (key_at lows highs) ranks order) 0 (n - 1) end i
+invariant-loop ranks lows highs order n end i₀ i = Going (key_twice (key_at lows highs) ranks order) 0 (n - 1) end i
 
 abbrev decreases-loop : tie.decreases-loop
 decreases-loop ranks lows highs order n end i₀ i = end - i
@@ -26,9 +26,9 @@ any-key-twice-spec =
     invariant-loop
     decreases-loop
     (λ c. search rules)
-    (λ c. any-start (omega arith))
+    (λ c. any_start (omega arith))
     is-key-twice-requires
-    (λ c. any-hit c.before.before.before.loop.invariant c.before.before.loop-test.true c.before.is-key-twice.ensures c.if1.true)
+    (λ c. any_hit c.before.before.before.loop.invariant c.before.before.loop-test.true c.before.is-key-twice.ensures c.if1.true)
     (λ c. search rules) (λ c. search rules)
     (λ c. any_next c.before.before.before.loop.invariant c.before.before.loop-test.true c.before.is-key-twice.ensures c.if1.false)
-    (λ c. any-end c.before.loop.invariant c.loop-test.false))
+    (λ c. any_end c.before.loop.invariant c.loop-test.false))

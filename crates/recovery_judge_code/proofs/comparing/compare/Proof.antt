@@ -1,6 +1,6 @@
 -- `recovery_judge_code::comparing::compare` meets its contract. Assumes nothing.
 use borrow.Author.Rules.{rules}
-use Rattle.recovery.proofs.Compares.{compare-near, compare-runs, compare-keys, compared-none, compared-runs, compared-keys}
+use Rattle.recovery.proofs.Compares.{compare_near, compare_runs, compare_keys, compared_none, compared_runs, compared_keys}
 use Rattle.recovery_judge_code.proofs.comparing.compare.Statement.{statement}
 use Rattle.recovery_judge_code.proofs.comparing.compare.Tie as tie
 
@@ -24,28 +24,28 @@ any-shared-requires : tie.Need-any-shared-requires
 any-shared-requires c κs =
     let at-order-by-rank = order-by-key-to-order-by-rank c.before.before.before.before.before in
     let at-start = order-by-rank-to-start at-order-by-rank in
-    compare-near _ _ _ _ _ _ at-start.args.order.now _ _ _ at-start.pre at-order-by-rank.order-by-rank.ensures
+    compare_near _ _ _ _ _ _ at-start.args.order.now _ _ _ at-start.pre at-order-by-rank.order-by-rank.ensures
 
 returns : tie.Need-returns
 returns c =
     let at-order-by-key = c.before.before.before.before.before.before.before in
     let at-order-by-rank = order-by-key-to-order-by-rank at-order-by-key in
     let at-start = order-by-rank-to-start at-order-by-rank in
-    compared-none _ _ _ _ _ _ at-start.args.order.now _ _ _ at-start.pre at-order-by-rank.order-by-rank.ensures _
+    compared_none _ _ _ _ _ _ at-start.args.order.now _ _ _ at-start.pre at-order-by-rank.order-by-rank.ensures _
     at-order-by-key.order-by-key.ensures _ _ c.before.any-shared.ensures c.if1.true
 
 any-run-fault-requires : tie.Need-any-run-fault-requires
 any-run-fault-requires c κs =
     let at-order-by-rank = order-by-key-to-order-by-rank c.before.before.before.before.before.before.before.before in
     let at-start = order-by-rank-to-start at-order-by-rank in
-    compare-runs _ _ _ _ _ _ at-start.args.order.now _ _ _ at-start.pre at-order-by-rank.order-by-rank.ensures
+    compare_runs _ _ _ _ _ _ at-start.args.order.now _ _ _ at-start.pre at-order-by-rank.order-by-rank.ensures
 
 returns-2 : tie.Need-returns-2
 returns-2 c =
     let at-order-by-key = any-run-fault-to-order-by-key c.before in
     let at-order-by-rank = order-by-key-to-order-by-rank at-order-by-key in
     let at-start = order-by-rank-to-start at-order-by-rank in
-    compared-runs _ _ _ _ _ _ at-start.args.order.now _ _ _ at-start.pre at-order-by-rank.order-by-rank.ensures _
+    compared_runs _ _ _ _ _ _ at-start.args.order.now _ _ _ at-start.pre at-order-by-rank.order-by-rank.ensures _
     at-order-by-key.order-by-key.ensures _ _ c.before.any-run-fault.ensures c.if2.true
 
 any-key-twice-requires : tie.Need-any-key-twice-requires
@@ -53,7 +53,7 @@ any-key-twice-requires c κs =
     let at-order-by-key = any-run-fault-to-order-by-key c.before.before in
     let at-order-by-rank = order-by-key-to-order-by-rank at-order-by-key in
     let at-start = order-by-rank-to-start at-order-by-rank in
-    compare-keys _ _ _ _ _ _ at-start.args.order.now _ _ _ at-start.pre at-order-by-rank.order-by-rank.ensures _
+    compare_keys _ _ _ _ _ _ at-start.args.order.now _ _ _ at-start.pre at-order-by-rank.order-by-rank.ensures _
     at-order-by-key.order-by-key.ensures
 
 returns-3 : tie.Need-returns-3
@@ -61,7 +61,7 @@ returns-3 c =
     let at-order-by-key = any-run-fault-to-order-by-key c.before.before.before in
     let at-order-by-rank = order-by-key-to-order-by-rank at-order-by-key in
     let at-start = order-by-rank-to-start at-order-by-rank in
-    compared-keys _ _ _ _ _ _ at-start.args.order.now _ _ _ at-start.pre at-order-by-rank.order-by-rank.ensures _
+    compared_keys _ _ _ _ _ _ at-start.args.order.now _ _ _ at-start.pre at-order-by-rank.order-by-rank.ensures _
     at-order-by-key.order-by-key.ensures _ _ c.before.before.before.any-run-fault.ensures c.before.before.if2.false _
     c.any-key-twice.ensures
 

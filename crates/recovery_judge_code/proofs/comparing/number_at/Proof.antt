@@ -16,7 +16,7 @@ slot-number-requires c κs =
         arith,
         at-start.requires.0.image-size,
         at-start.requires.0.within at-start.args.i
-            (omega (arith, at-start.requires.0.order-size, at-start.requires.1)),
+            (omega (arith, at-start.requires.0.order_size, at-start.requires.1)),
       );
     }
 

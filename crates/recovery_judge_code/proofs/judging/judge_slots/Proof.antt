@@ -6,7 +6,7 @@ use native.Mathlib.Omega.{arith}
 use lib.ListN.{length}
 use borrow.Author.Rules.{rules}
 use Rattle.recovery.specs.inner.Judge.{Judgeable}
-use Rattle.recovery.proofs.Judges.{judged, judge-numbered, decide-ready, broken-fits}
+use Rattle.recovery.proofs.Judges.{judged, judge_numbered, decide_ready, broken_fits}
 use Rattle.recovery_judge_code.proofs.judging.judge_slots.Statement.{statement}
 use Rattle.recovery_judge_code.proofs.judging.judge_slots.Tie as tie
 
@@ -89,17 +89,17 @@ sizes at =
     record {
       layout = at-start.pre.layout;
       image-size = at-start.pre.image-size;
-      ranks-size = kept.0 ∙ at-start.pre.ranks-size;
-      lows-size = kept.1.0 ∙ at-start.pre.lows-size;
-      highs-size = kept.1.1.0 ∙ at-start.pre.highs-size;
-      places-size = kept.1.1.1.0 ∙ at-start.pre.places-size;
-      order-size = at-start.pre.order-size;
-      by-key-size = at-start.pre.by-key-size;
-      scratch-size = at-start.pre.scratch-size;
-      some-slots = at-start.pre.some-slots;
+      ranks_size = kept.0 ∙ at-start.pre.ranks_size;
+      lows_size = kept.1.0 ∙ at-start.pre.lows_size;
+      highs_size = kept.1.1.0 ∙ at-start.pre.highs_size;
+      places_size = kept.1.1.1.0 ∙ at-start.pre.places_size;
+      order_size = at-start.pre.order_size;
+      by_key_size = at-start.pre.by_key_size;
+      scratch_size = at-start.pre.scratch_size;
+      some_slots = at-start.pre.some_slots;
       few = at-start.pre.few;
-      heads-low = at-start.pre.heads-low;
-      heads-high = at-start.pre.heads-high;
+      heads_low = at-start.pre.heads_low;
+      heads_high = at-start.pre.heads_high;
     }
 
 compare-requires : tie.Need-compare-requires
@@ -110,8 +110,8 @@ judged-rank-requires c κs =
     let at-compare = judged-rank-arg2-to-compare c in
     let at-scan = compare-to-scan at-compare in
     let s = sizes at-scan in (
-      judge-numbered (ranks at-scan) (lows at-scan) (highs at-scan) _ _ _ at-compare.compare.ensures.in_order _ _ s.layout s.image-size s.few,
-      s.ranks-size,
+      judge_numbered (ranks at-scan) (lows at-scan) (highs at-scan) _ _ _ at-compare.compare.ensures.in_order _ _ s.layout s.image-size s.few,
+      s.ranks_size,
     )
 
 settle-requires : tie.Need-settle-requires
@@ -121,27 +121,27 @@ settle-requires c κs =
     let kept = at-compare.compare.kept.1.1.1.1.1.1 in
     record {
       image-size = s.image-size;
-      ranks-size = s.ranks-size;
-      places-size = s.places-size;
-      order-size = kept.0 ∙ s.order-size;
-      by-key-size = kept.1.0 ∙ s.by-key-size;
-      scratch-size = kept.1.1.0 ∙ s.scratch-size;
-      some-slots = s.some-slots;
+      ranks_size = s.ranks_size;
+      places_size = s.places_size;
+      order_size = kept.0 ∙ s.order_size;
+      by_key_size = kept.1.0 ∙ s.by_key_size;
+      scratch_size = kept.1.1.0 ∙ s.scratch_size;
+      some_slots = s.some_slots;
       few = s.few;
       in_order = at-compare.compare.ensures.in_order;
     }
 
 -- what `settle` has left of the places has the size of what `scan` filled
 places-kept : (at : tie.After-settle) → length (settled-places at) ≡ (scan-to-start (compare-to-scan (settle-to-compare at))).args.n + 1
-places-kept at = at.settle.auto.1.1.1.1.1.1.0 ∙ (sizes (compare-to-scan (settle-to-compare at))).places-size
+places-kept at = at.settle.auto.1.1.1.1.1.1.0 ∙ (sizes (compare-to-scan (settle-to-compare at))).places_size
 
 decide-requires : tie.Need-decide-requires
 decide-requires c κs =
     let at-settle = decide-arg4-to-settle c in
     let at-scan = compare-to-scan (settle-to-compare at-settle) in
     let s = sizes at-scan in
-    decide-ready (settled-ranks at-settle) (lows at-scan) (highs at-scan) _ _ _ at-settle.settle.ensures.in_order (scan-to-start at-scan).args.l
-    (settled-places at-settle) s.few s.lows-size s.layout s.highs-size (places-kept at-settle)
+    decide_ready (settled-ranks at-settle) (lows at-scan) (highs at-scan) _ _ _ at-settle.settle.ensures.in_order (scan-to-start at-scan).args.l
+    (settled-places at-settle) s.few s.lows_size s.layout s.highs_size (places-kept at-settle)
 
 count-placed-requires : tie.Need-count-placed-requires
 count-placed-requires c κs =
@@ -155,8 +155,8 @@ add-broken c =
     let at-scan = compare-to-scan (settle-to-compare at-settle) in
     omega (
       arith,
-      broken-fits _ _ _ _ (ranks at-scan) (lows at-scan) (highs at-scan) (places at-scan) _ _ _ at-scan.scan.ensures
-          at-settle.settle.ensures.opened-is,
+      broken_fits _ _ _ _ (ranks at-scan) (lows at-scan) (highs at-scan) (places at-scan) _ _ _ at-scan.scan.ensures
+          at-settle.settle.ensures.opened_is,
       (sizes at-scan).few,
     )
 
@@ -207,8 +207,8 @@ returns c =
     let at-compare = judged-rank-to-compare at-judged-rank in
     let at-scan = compare-to-scan at-compare in
     judged _ _ _ _ (ranks at-scan) (lows at-scan) (highs at-scan) (places at-scan) _ _ (settled-ranks at-settle) (settled-places at-settle) _ _ _ _ _ _ _ _ _
-    (λ k. ((scan-to-image at-scan).shared-slice-known.given k).fits) (sizes at-scan).places-size at-scan.scan.ensures at-compare.compare.ensures
-    at-judged-rank.judged-rank.ensures at-settle.settle.ensures at-decide.decide.ensures at-count-placed.count-placed.ensures.0 refl _ _
+    (λ k. ((scan-to-image at-scan).shared-slice-known.given k).fits) (sizes at-scan).places_size at-scan.scan.ensures at-compare.compare.ensures
+    at-judged-rank.judged-rank.ensures at-settle.settle.ensures at-decide.decide.ensures at-count-placed.count_placed.ensures.0 refl _ _
     c.before.found-fault.ensures c.found-slot.ensures
 
 pub judge-slots-spec : {M : Type 1} → statement M

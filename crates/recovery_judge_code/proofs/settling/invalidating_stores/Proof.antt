@@ -8,8 +8,8 @@ use lib.ListN.{get_or}
 use borrow.Author.Rules.{rules}
 use borrow.Author.Tests.{lt-ltb, le-ltb}
 use Rattle.words.specs.Word.{word}
-use Rattle.recovery.specs.inner.Judge.{withStore}
-use Rattle.recovery.proofs.InvalidatingStores.{invalidating-store, Invalidation, invalidating-start, invalidating-more, invalidating-same, invalidating-end}
+use Rattle.recovery.specs.inner.Judge.{with_store}
+use Rattle.recovery.proofs.InvalidatingStores.{invalidating-store, Invalidation, invalidating_start, invalidating_more, invalidating_same, invalidating_end}
 use Rattle.recovery_judge_code.proofs.settling.invalidating_stores.Statement.{statement}
 use Rattle.recovery_judge_code.proofs.settling.invalidating_stores.Tie as tie
 
@@ -20,7 +20,7 @@ abbrev decreases-loop : tie.decreases-loop
 decreases-loop image ranks n limit opened₀ s₀ opened s = n + 1 - s
 
 loop-holds : tie.Need-loop-init invariant-loop decreases-loop
-loop-holds c = invalidating-start _ _ _ _ c.no-invalidations.ensures
+loop-holds c = invalidating_start _ _ _ _ c.no-invalidations.ensures
 
 -- the points that the proof uses, each by the way from the one after it
 abbrev loop-to-start : tie.At-loop invariant-loop decreases-loop → tie.Start invariant-loop decreases-loop
@@ -60,13 +60,13 @@ loop-again c =
     let in-loop = c.before.before in
     let at-loop = in-loop.before in
     ⊎_elim
-    (λ w. invalidating-more _ _ _ _ _ at-loop.loop.invariant in-loop.loop-test.true _ (lt-ltb _ _ w.0.taken)
-    (w.4 ∙ w.3.ensures ∙ ap (withStore _) (invalidating-store _ _ _ _ w.2.ensures w.1.ensures)))
-    (λ w. invalidating-same _ _ _ _ _ at-loop.loop.invariant in-loop.loop-test.true _ (le-ltb _ _ w.0.left) w.1)
+    (λ w. invalidating_more _ _ _ _ _ at-loop.loop.invariant in-loop.loop-test.true _ (lt-ltb _ _ w.0.taken)
+    (w.4 ∙ w.3.ensures ∙ ap (with_store _) (invalidating-store _ _ _ _ w.2.ensures w.1.ensures)))
+    (λ w. invalidating_same _ _ _ _ _ at-loop.loop.invariant in-loop.loop-test.true _ (le-ltb _ _ w.0.left) w.1)
     c.if1.branch
 
 returns : tie.Need-returns invariant-loop decreases-loop
-returns c = invalidating-end _ _ _ _ _ c.before.loop.invariant c.loop-test.false
+returns c = invalidating_end _ _ _ _ _ c.before.loop.invariant c.loop-test.false
 
 pub invalidating-stores-spec : {M : Type 1} → statement M
 invalidating-stores-spec =

@@ -2,7 +2,7 @@
 use mathlib.Core.Path.{sym, ◌∙◌}
 use native.Mathlib.Omega.{arith}
 use borrow.Author.Rules.{rules}
-use Rattle.recovery.proofs.Settles.{settle-last, settled-none, settled-again}
+use Rattle.recovery.proofs.Settles.{settle_last, settled_none, settled_again}
 use Rattle.recovery_judge_code.proofs.settling.settle.Statement.{statement}
 use Rattle.recovery_judge_code.proofs.settling.settle.Tie as tie
 
@@ -31,27 +31,27 @@ slice-known11-to-order-by-key at = at.before.before.before.before
 entry-at-requires : tie.Need-entry-at-requires
 entry-at-requires c κs =
     let at-start = slice-known2-to-start c.before.before.before.before.before in
-    settle-last _ _ _ _ _ _ _ _ _ at-start.pre
+    settle_last _ _ _ _ _ _ _ _ _ at-start.pre
 
 returns : tie.Need-returns
 returns c =
     let at-start = entry-at-to-start c.before.before in
-    settled-none _ _ _ _ _ _ _ _ _ at-start.pre _ _ _ c.before.before.entry_at.ensures c.before.if1.true _ c.no-invalidations.ensures
+    settled_none _ _ _ _ _ _ _ _ _ at-start.pre _ _ _ c.before.before.entry_at.ensures c.before.if1.true _ c.no-invalidations.ensures
 
 order-by-rank-requires : tie.Need-order-by-rank-requires
 order-by-rank-requires c κs =
     let at-start = invalidating-stores-to-start (clear-above-to-invalidating-stores c.before.before.before.before.before.before.before) in
-    (omega (arith, at-start.pre.order-size, at-start.pre.few), at-start.pre.scratch-size ∙ sym at-start.pre.order-size)
+    (omega (arith, at-start.pre.order_size, at-start.pre.few), at-start.pre.scratch_size ∙ sym at-start.pre.order_size)
 
 order-by-key-requires : tie.Need-order-by-key-requires
 order-by-key-requires c κs =
     let at-order-by-rank = c.before.before.before.before.before.before.before in
     let at-start = invalidating-stores-to-start (clear-above-to-invalidating-stores (order-by-rank-to-clear-above at-order-by-rank)) in
-    let size = at-order-by-rank.order-by-rank.auto.1.0 ∙ at-start.pre.order-size in (
+    let size = at-order-by-rank.order-by-rank.auto.1.0 ∙ at-start.pre.order_size in (
       omega (arith, size, at-start.pre.few),
-      at-start.pre.by-key-size ∙ sym size,
+      at-start.pre.by_key_size ∙ sym size,
       at-order-by-rank.order-by-rank.auto.1.1.0
-          ∙ at-start.pre.scratch-size ∙ sym size,
+          ∙ at-start.pre.scratch_size ∙ sym size,
     )
 
 same-length-3 : tie.Need-same-length-3
@@ -83,7 +83,7 @@ returns-2 c =
     let at-clear-above = order-by-rank-to-clear-above at-order-by-rank in
     let at-invalidating-stores = clear-above-to-invalidating-stores at-clear-above in
     let at-start = invalidating-stores-to-start at-invalidating-stores in
-    settled-again _ _ _ _ _ _ _ _ _ at-start.pre _ _ _ _ _ _ _ at-invalidating-stores.invalidating-stores.ensures at-clear-above.Clear-above.ensures
+    settled_again _ _ _ _ _ _ _ _ _ at-start.pre _ _ _ _ _ _ _ at-invalidating-stores.invalidating-stores.ensures at-clear-above.Clear-above.ensures
     at-order-by-rank.order-by-rank.ensures at-order-by-key.order-by-key.ensures
 
 pub settle-spec : {M : Type 1} → statement M

@@ -1,6 +1,6 @@
 -- `recovery_rebuild_code::rebuilding::recover_with` meets its contract. Assumes nothing.
 use borrow.Author.Rules.{rules}
-use Rattle.recovery.proofs.Recovers.{slots-answered, rebuild-ordered, rebuild-top}
+use Rattle.recovery.proofs.Recovers.{slots_answered, rebuild_ordered, rebuild_top}
 use Rattle.recovery_rebuild_code.proofs.rebuilding.recover_with.Statement.{statement}
 use Rattle.recovery_rebuild_code.proofs.rebuilding.recover_with.Tie as tie
 
@@ -33,9 +33,9 @@ rebuild-accepted-requires : tie.Need-rebuild-accepted-requires
 rebuild-accepted-requires c κs z =
     let at-judge-slots = by-key-to-judge-slots c.before.before.before.before.before.before.before in
     let at-start = judge-slots-to-start at-judge-slots in (
-      rebuild-ordered _ _ _ _ _ _ _ _ _ _ _ _ _ _ _ at-start.pre.0 at-start.pre.1 at-judge-slots.judge-slots.ensures
+      rebuild_ordered _ _ _ _ _ _ _ _ _ _ _ _ _ _ _ at-start.pre.0 at-start.pre.1 at-judge-slots.judge-slots.ensures
           at-judge-slots.judge-slots.kept.1.1.1.1.1.1.1.0 z,
-      rebuild-top _ _ _ _ _ _ _ at-judge-slots.judge-slots.ensures z,
+      rebuild_top _ _ _ _ _ _ _ at-judge-slots.judge-slots.ensures z,
     )
 
 same_length : tie.Need-same-length
@@ -70,7 +70,7 @@ returns c =
     let at-rebuild-accepted = recover-answer-to-rebuild-accepted c in
     let at-judge-slots = rebuild-accepted-to-judge-slots at-rebuild-accepted in
     let at-start = judge-slots-to-start at-judge-slots in
-    slots-answered _ _ _ _ _ _ _ _ _ _ _ _ at-start.pre.0 at-judge-slots.judge-slots.ensures at-rebuild-accepted.rebuild-accepted.ensures
+    slots_answered _ _ _ _ _ _ _ _ _ _ _ _ at-start.pre.0 at-judge-slots.judge-slots.ensures at-rebuild-accepted.rebuild-accepted.ensures
     c.recover-answer.ensures
 
 pub recover-with-spec : {M : Type 1} → statement M

@@ -6,10 +6,10 @@ use Rattle.recovery_scan_code.proofs.scanning.classes_with.Tie as tie
 returns : tie.Need-returns
 returns c =
     record {
-      broken-is = c.before.before.before.before.count-if.ensures;
-      empty-is = c.before.before.before.count-if2.ensures;
-      puts-are = c.before.before.count-if3.ensures;
-      removes-are = rw c.before.is-remove.ensures at c.count-if4.ensures;
+      broken_is = c.before.before.before.before.count-if.ensures;
+      empty_is = c.before.before.before.count-if2.ensures;
+      puts_are = c.before.before.count-if3.ensures;
+      removes_are = rw c.before.is-remove.ensures at c.count-if4.ensures;
     }
 
 pub classes-with-spec : {M : Type 1} → statement M

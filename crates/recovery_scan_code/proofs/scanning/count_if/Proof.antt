@@ -2,7 +2,7 @@
 use native.Mathlib.Omega.{arith}
 use mathlib.Core.Path.{sym, ◌∙◌}
 use borrow.Author.Rules.{rules}
-use Rattle.prelude.proofs.Choice.{pick_true, pick-false}
+use Rattle.prelude.proofs.Choice.{pick_true, pick_false}
 use Rattle.recovery_scan_code.proofs.scanning.count_if.Statement.{statement}
 use Rattle.recovery_scan_code.proofs.scanning.count_if.Tie as tie
 
@@ -12,4 +12,4 @@ count-if-spec =
     (tie.spec
     (λ c. search rules)
     (λ c. omega arith ∙ sym (pick_true _ _ _ c.if1.true))
-    (λ c. sym (pick-false _ _ _ c.if1.false)))
+    (λ c. sym (pick_false _ _ _ c.if1.false)))

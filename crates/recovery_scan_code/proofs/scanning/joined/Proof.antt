@@ -11,11 +11,11 @@ returns : tie.Need-returns
 returns c =
     let at-slot-at-fault = c.before.before.before.before in
     record {
-      mark-is = ⊎_elim (λ w. or_left _ _ _ w.0.taken w.1) (λ w. or_right _ _ _ w.0.left w.1) at-slot-at-fault.before.before.if1.branch;
-      fault-is = at-slot-at-fault.before.first_of.ensures;
+      mark_is = ⊎_elim (λ w. or_left _ _ _ w.0.taken w.1) (λ w. or_right _ _ _ w.0.left w.1) at-slot-at-fault.before.before.if1.branch;
+      fault_is = at-slot-at-fault.before.first_of.ensures;
       slot_is = c.before.before.before.first-of2.ensures ∙ ap (or_else _) at-slot-at-fault.slot-at-fault.ensures;
-      classes-are = c.before.classes-with.ensures;
-      top-is = c.greater.ensures;
+      classes_are = c.before.classes-with.ensures;
+      top_is = c.greater.ensures;
     }
 
 pub joined-spec : {M : Type 1} → statement M

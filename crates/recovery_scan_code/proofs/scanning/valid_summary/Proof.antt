@@ -1,13 +1,13 @@
 -- `recovery_scan_code::scanning::valid_summary` meets its contract. Assumes nothing.
 use borrow.Author.Rules.{rules}
-use Rattle.recovery.proofs.Scans.{valid-is}
+use Rattle.recovery.proofs.Scans.{valid_is}
 use Rattle.recovery_scan_code.proofs.scanning.valid_summary.Statement.{statement}
 use Rattle.recovery_scan_code.proofs.scanning.valid_summary.Tie as tie
 
 returns : tie.Need-returns
 returns c =
     let at-slot-low = c.before.before.before.before in
-    valid-is _ _ _ _ _ _ _ _ _ _ _ at-slot-low.before.before.requires.0.layout at-slot-low.slot-low.ensures c.before.slot-high.ensures
+    valid_is _ _ _ _ _ _ _ _ _ _ _ at-slot-low.before.before.requires.0.layout at-slot-low.slot_low.ensures c.before.slot_high.ensures
     c.before.before.before.slot-kind.ensures c.before.before.record-place.ensures
     c.record-fault.ensures
 

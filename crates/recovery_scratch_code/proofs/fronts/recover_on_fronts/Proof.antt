@@ -5,7 +5,7 @@ use lib.ListN.{length}
 use lib.Seq.{length_front}
 use borrow.Author.Rules.{rules}
 use Rattle.prelude.proofs.Lists.{front_length}
-use Rattle.recovery.proofs.Recovers.{highs-few, judgeable}
+use Rattle.recovery.proofs.Recovers.{highs_few, judgeable}
 use Rattle.recovery_scratch_code.proofs.fronts.recover_on_fronts.Statement.{statement}
 use Rattle.recovery_scratch_code.proofs.fronts.recover_on_fronts.Tie as tie
 
@@ -68,8 +68,8 @@ abbrev slice-known18-to-start : tie.After-slice-known18 → tie.Start
 slice-known18-to-start at = recover-with-to-start (slice-known18-to-recover-with at)
 
 -- the lent list of the high parts has room for those of all slots
-highs-room : (at : tie.Start) → (at.args.l - 1) * (at.args.n + 1) ≤ length at.args.highs.now
-highs-room at = omega (arith, highs-few at.args.l at.args.n at.requires.0.layout, at.requires.1.highs-room)
+highs_room : (at : tie.Start) → (at.args.l - 1) * (at.args.n + 1) ≤ length at.args.highs.now
+highs_room at = omega (arith, highs_few at.args.l at.args.n at.requires.0.layout, at.requires.1.highs_room)
 
 sub-h : tie.Need-overflow-sub-h
 sub-h c = (slice-known9-to-start c).requires.0.layout.low
@@ -77,63 +77,63 @@ sub-h c = (slice-known9-to-start c).requires.0.layout.low
 mul-h : tie.Need-overflow-mul-h
 mul-h c =
     let at-start = slice-known9-to-start c in
-    omega (arith, highs-few at-start.args.l at-start.args.n at-start.pre.0.layout, at-start.pre.0.sized.few)
+    omega (arith, highs_few at-start.args.l at-start.args.n at-start.pre.0.layout, at-start.pre.0.sized.few)
 
 slice-relend-prefix-recover-with : tie.Need-slice-relend-prefix-recover-with
-slice-relend-prefix-recover-with c = omega (arith, (recover-with-arg2-to-start c).requires.1.ranks-room)
+slice-relend-prefix-recover-with c = omega (arith, (recover-with-arg2-to-start c).requires.1.ranks_room)
 
 slice-aggregate-recover-with : tie.Need-slice-aggregate-recover-with
 slice-aggregate-recover-with c =
     let at-start = recover-with-arg3-to-start c in
-    front_length _ at-start.args.ranks.now (omega (arith, at-start.pre.1.ranks-room))
+    front_length _ at-start.args.ranks.now (omega (arith, at-start.pre.1.ranks_room))
 
 slice-relend-prefix-recover-with-2 : tie.Need-slice-relend-prefix-recover-with-2
-slice-relend-prefix-recover-with-2 c = omega (arith, (recover-with-arg3-to-start c).requires.1.lows-room)
+slice-relend-prefix-recover-with-2 c = omega (arith, (recover-with-arg3-to-start c).requires.1.lows_room)
 
 slice-aggregate-recover-with-2 : tie.Need-slice-aggregate-recover-with-2
 slice-aggregate-recover-with-2 c =
     let at-start = recover-with-arg4-to-start c in
-    front_length _ at-start.args.lows.now (omega (arith, at-start.pre.1.lows-room))
+    front_length _ at-start.args.lows.now (omega (arith, at-start.pre.1.lows_room))
 
 slice-relend-prefix-recover-with-3 : tie.Need-slice-relend-prefix-recover-with-3
-slice-relend-prefix-recover-with-3 c = highs-room (recover-with-arg4-to-start c)
+slice-relend-prefix-recover-with-3 c = highs_room (recover-with-arg4-to-start c)
 
 slice-aggregate-recover-with-3 : tie.Need-slice-aggregate-recover-with-3
 slice-aggregate-recover-with-3 c =
     let at-start = recover-with-arg5-to-start c in
-    front_length _ at-start.args.highs.now (highs-room at-start)
+    front_length _ at-start.args.highs.now (highs_room at-start)
 
 slice-relend-prefix-recover-with-4 : tie.Need-slice-relend-prefix-recover-with-4
-slice-relend-prefix-recover-with-4 c = omega (arith, (recover-with-arg5-to-start c).requires.1.places-room)
+slice-relend-prefix-recover-with-4 c = omega (arith, (recover-with-arg5-to-start c).requires.1.places_room)
 
 slice-aggregate-recover-with-4 : tie.Need-slice-aggregate-recover-with-4
 slice-aggregate-recover-with-4 c =
     let at-start = recover-with-arg6-to-start c in
-    front_length _ at-start.args.places.now (omega (arith, at-start.pre.1.places-room))
+    front_length _ at-start.args.places.now (omega (arith, at-start.pre.1.places_room))
 
 slice-relend-prefix-recover-with-5 : tie.Need-slice-relend-prefix-recover-with-5
-slice-relend-prefix-recover-with-5 c = omega (arith, (recover-with-arg6-to-start c).requires.1.order-room)
+slice-relend-prefix-recover-with-5 c = omega (arith, (recover-with-arg6-to-start c).requires.1.order_room)
 
 slice-aggregate-recover-with-5 : tie.Need-slice-aggregate-recover-with-5
 slice-aggregate-recover-with-5 c =
     let at-start = recover-with-arg7-to-start c in
-    front_length _ at-start.args.order.now (omega (arith, at-start.pre.1.order-room))
+    front_length _ at-start.args.order.now (omega (arith, at-start.pre.1.order_room))
 
 slice-relend-prefix-recover-with-6 : tie.Need-slice-relend-prefix-recover-with-6
-slice-relend-prefix-recover-with-6 c = omega (arith, (recover-with-arg7-to-start c).requires.1.by-key-room)
+slice-relend-prefix-recover-with-6 c = omega (arith, (recover-with-arg7-to-start c).requires.1.by_key_room)
 
 slice-aggregate-recover-with-6 : tie.Need-slice-aggregate-recover-with-6
 slice-aggregate-recover-with-6 c =
     let at-start = recover-with-arg8-to-start c in
-    front_length _ at-start.args.by_key.now (omega (arith, at-start.pre.1.by-key-room))
+    front_length _ at-start.args.by_key.now (omega (arith, at-start.pre.1.by_key_room))
 
 slice-relend-prefix-recover-with-7 : tie.Need-slice-relend-prefix-recover-with-7
-slice-relend-prefix-recover-with-7 c = omega (arith, (recover-with-arg8-to-start c).requires.1.scratch-room)
+slice-relend-prefix-recover-with-7 c = omega (arith, (recover-with-arg8-to-start c).requires.1.scratch_room)
 
 slice-aggregate-recover-with-7 : tie.Need-slice-aggregate-recover-with-7
 slice-aggregate-recover-with-7 c =
     let at-start = recover-with-arg9-to-start c in
-    front_length _ at-start.args.scratch.now (omega (arith, at-start.pre.1.scratch-room))
+    front_length _ at-start.args.scratch.now (omega (arith, at-start.pre.1.scratch_room))
 
 recover-with-requires : tie.Need-recover-with-requires
 recover-with-requires c κs =

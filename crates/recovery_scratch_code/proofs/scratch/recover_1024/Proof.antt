@@ -14,13 +14,13 @@ recover-on-fronts-requires c κs =
     let given = at-start.pre in (
       given.0,
       record {
-        ranks-room = omega (arith, given.1);
-        lows-room = omega (arith, given.1);
-        highs-room = omega (arith, given.1);
-        places-room = omega (arith, given.1);
-        order-room = omega (arith, given.1);
-        by-key-room = omega (arith, given.1);
-        scratch-room = omega (arith, given.1);
+        ranks_room = omega (arith, given.1);
+        lows_room = omega (arith, given.1);
+        highs_room = omega (arith, given.1);
+        places_room = omega (arith, given.1);
+        order_room = omega (arith, given.1);
+        by_key_room = omega (arith, given.1);
+        scratch_room = omega (arith, given.1);
       },
     )
 

@@ -2,23 +2,23 @@
 use mathlib.Core.Path.{refl}
 use native.Mathlib.Omega.{arith}
 use borrow.Author.Rules.{rules}
-use Rattle.interface.specs.Set.{countValues}
-use Rattle.report_text.specs.Report.{totalsWith}
+use Rattle.interface.specs.Set.{count_values}
+use Rattle.report_text.specs.Report.{totals_with}
 use Rattle.report_text_code.proofs.image.add_counts.Statement.{statement}
 use Rattle.report_text_code.proofs.image.add_counts.Tie as tie
 
 returns : tie.Need-returns
-unfolding totalsWith countValues
+unfolding totals_with count_values
 returns c = (
   refl,
   λ bound h.
       record {
-        live-low = omega (arith, h.live-low);
-        hidden-low = omega (arith, h.hidden-low);
-        removes-low = omega (arith, h.removes-low);
-        void-low = omega (arith, h.void-low);
-        broken-low = omega (arith, h.broken-low);
-        empty-low = omega (arith, h.empty-low);
+        live_low = omega (arith, h.live_low);
+        hidden_low = omega (arith, h.hidden_low);
+        removes_low = omega (arith, h.removes_low);
+        void_low = omega (arith, h.void_low);
+        broken_low = omega (arith, h.broken_low);
+        empty_low = omega (arith, h.empty_low);
       },
 )
 

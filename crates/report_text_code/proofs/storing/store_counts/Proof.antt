@@ -1,12 +1,12 @@
 -- `report_text_code::storing::store_counts` meets its contract. Assumes nothing.
-use Rattle.text.specs.Output.{lineText}
-use Rattle.interface.specs.Set.{countValues}
+use Rattle.text.specs.Output.{line_text}
+use Rattle.interface.specs.Set.{count_values}
 use borrow.Author.Rules.{rules}
 use Rattle.report_text_code.proofs.storing.store_counts.Statement.{statement}
 use Rattle.report_text_code.proofs.storing.store_counts.Tie as tie
 
 returns : tie.Need-returns
-unfolding lineText countValues
+unfolding line_text count_values
 returns c = search rules
 
 pub store-counts-spec : {M : Type 1} → statement M

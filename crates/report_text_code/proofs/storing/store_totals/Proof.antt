@@ -1,11 +1,11 @@
 -- `report_text_code::storing::store_totals` meets its contract. Assumes nothing.
-use Rattle.report_text.specs.Report.{totalsText}
+use Rattle.report_text.specs.Report.{totals_text}
 use borrow.Author.Rules.{rules}
 use Rattle.report_text_code.proofs.storing.store_totals.Statement.{statement}
 use Rattle.report_text_code.proofs.storing.store_totals.Tie as tie
 
 returns : tie.Need-returns
-unfolding totalsText
+unfolding totals_text
 returns c = search rules
 
 pub store-totals-spec : {M : Type 1} → statement M

@@ -2,7 +2,7 @@
 use Prim.Native.Nat.{◌-◌}
 use native.Mathlib.Omega.{arith}
 use borrow.Author.Rules.{rules}
-use Rattle.report_text.proofs.Moved.{Moving, moving-start, moving-next}
+use Rattle.report_text.proofs.Moved.{Moving, moving_start, moving_next}
 use Rattle.report_text_input_code.proofs.carry.move_down.Statement.{statement}
 use Rattle.report_text_input_code.proofs.carry.move_down.Tie as tie
 
@@ -16,7 +16,7 @@ sub-n : tie.Need-overflow-sub-n invariant-loop decreases-loop
 sub-n c = search rules
 
 loop-holds : tie.Need-loop-init invariant-loop decreases-loop
-loop-holds c = moving-start _ _ _
+loop-holds c = moving_start _ _ _
 
 add-input : tie.Need-overflow-add-input invariant-loop decreases-loop
 add-input c =
@@ -42,7 +42,7 @@ loop-less c = search rules
 loop-again : tie.Need-loop-preserved invariant-loop decreases-loop
 loop-again c =
     let at-start = c.before.before.before in
-    moving-next _ _ _ _ _ c.before.before.loop.invariant c.before.loop-test.true (omega (arith, at-start.requires.0, at-start.requires.1))
+    moving_next _ _ _ _ _ c.before.before.loop.invariant c.before.loop-test.true (omega (arith, at-start.requires.0, at-start.requires.1))
 
 same_length : tie.Need-same-length invariant-loop decreases-loop
 same_length c = c.before.loop.invariant.size

@@ -1,7 +1,7 @@
 -- `session_code::lines::carry_change` meets its contract. Assumes nothing.
-use Rattle.interface.specs.Set.{changeSays}
-use Rattle.text.specs.inner.Output.{replySays}
-use Rattle.session.specs.Step.{changeStep, changedAs}
+use Rattle.interface.specs.Set.{change_says}
+use Rattle.text.specs.inner.Output.{reply_says}
+use Rattle.session.specs.Step.{change_step, changed_as}
 use borrow.Author.Rules.{rules}
 use Rattle.session_code.proofs.lines.carry_change.Statement.{statement}
 use Rattle.session_code.proofs.lines.carry_change.Tie as tie
@@ -11,17 +11,17 @@ abbrev play-or-cut-to-outcome : tie.After-play-or-cut → tie.After-outcome
 play-or-cut-to-outcome at = at.before.before.before.before.before
 
 returns : tie.Need-returns
-unfolding changeStep changedAs changeSays replySays
+unfolding change_step changed_as change_says reply_says
 returns c =
     let at-outcome = play-or-cut-to-outcome c.before.before.before.before.before.before in
     search (rules, at-outcome.outcome.given.1)
 
 returns-2 : tie.Need-returns-2
-unfolding changeStep changedAs changeSays replySays
+unfolding change_step changed_as change_says reply_says
 returns-2 c = search (rules, c.enum_told.given.1)
 
 returns-3 : tie.Need-returns-3
-unfolding changeStep changedAs changeSays replySays
+unfolding change_step changed_as change_says reply_says
 returns-3 c = search (rules, c.before.outcome2.given.1)
 
 pub carry-change-spec : {M : Type 1} → statement M

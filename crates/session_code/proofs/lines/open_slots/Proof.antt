@@ -3,7 +3,7 @@ use mathlib.Core.Path.{◌≡◌}
 use native.Mathlib.Omega.{arith}
 use lib.ListN.{length}
 use Rattle.prelude.proofs.Lists.{front_length}
-use Rattle.session.proofs.Steps.{invalidations-played-on}
+use Rattle.session.proofs.Steps.{invalidations_played_on}
 use borrow.Author.Rules.{rules}
 use Rattle.session_code.proofs.lines.open_slots.Statement.{statement}
 use Rattle.session_code.proofs.lines.open_slots.Tie as tie
@@ -40,8 +40,8 @@ slice-aggregate-play-list-2 c =
 returns : tie.Need-returns
 returns c =
     let at-start = value-to-start c.before.before.before.before.before.before in
-    invalidations-played-on _ at-start.args.invalidations (search (rules, at-start.good.1.0)) (search (rules, at-start.good.1.0)) at-start.pre _ _
-    c.before.before.play-list.ensures
+    invalidations_played_on _ at-start.args.invalidations (search (rules, at-start.good.1.0)) (search (rules, at-start.good.1.0)) at-start.pre _ _
+    c.before.before.play_list.ensures
 
 pub open-slots-spec : {M : Type 1} → statement M
 open-slots-spec =

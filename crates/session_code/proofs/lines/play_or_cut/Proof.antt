@@ -1,7 +1,7 @@
 -- `session_code::lines::play_or_cut` meets its contract. Assumes nothing.
-use Rattle.text.specs.inner.Output.{replySays}
-use Rattle.session.specs.Step.{storedWith}
-use Rattle.session.proofs.Steps.{played-on, list-played-on}
+use Rattle.text.specs.inner.Output.{reply_says}
+use Rattle.session.specs.Step.{stored_with}
+use Rattle.session.proofs.Steps.{played_on, list_played_on}
 use borrow.Author.Rules.{rules}
 use Rattle.session_code.proofs.lines.play_or_cut.Statement.{statement}
 use Rattle.session_code.proofs.lines.play_or_cut.Tie as tie
@@ -11,18 +11,18 @@ abbrev play-list-to-enum-told : tie.After-play-list → tie.After-enum-told
 play-list-to-enum-told at = at.before.before.before.before.before.before
 
 returns : tie.Need-returns
-unfolding storedWith replySays
+unfolding stored_with reply_says
 returns c =
     let at-enum-told = play-list-to-enum-told c.before.before.before in
     let at-start = at-enum-told.before.before.before.before.before in
     rw (
       at-enum-told.enum_told.given.1,
-      ← (list-played-on _ at-start.args.stores.at at-start.args.stores.value 16 (search (rules, at-start.good.1.1.1.0))
-          (search (rules, at-start.good.1.1.1.0)) _ _ c.before.before.before.play-list.ensures),
+      ← (list_played_on _ at-start.args.stores.at at-start.args.stores.value 16 (search (rules, at-start.good.1.1.1.0))
+          (search (rules, at-start.good.1.1.1.0)) _ _ c.before.before.before.play_list.ensures),
     )
 
 returns-2 : tie.Need-returns-2
-unfolding storedWith replySays
+unfolding stored_with reply_says
 returns-2 c =
     let at-recover-session = c.before.before.before.before.before.before in
     let at-play = at-recover-session.before.before.before.before.before.before in
@@ -30,7 +30,7 @@ returns-2 c =
     let at-start = at-waiting.before.before.before.before.before in
     rw (
       at-waiting.waiting.given.1,
-      ← (played-on _ _ _ (search (rules, at-start.well-formed.1.1.1.0)) (search (rules, at-start.well-formed.1.1.1.0)) _ _ _ _ at-play.play.ensures),
+      ← (played_on _ _ _ (search (rules, at-start.well-formed.1.1.1.0)) (search (rules, at-start.well-formed.1.1.1.0)) _ _ _ _ at-play.play.ensures),
     )
     at-recover-session.recover-session.ensures
 

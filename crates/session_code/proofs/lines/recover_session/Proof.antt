@@ -1,8 +1,8 @@
 -- `session_code::lines::recover_session` meets its contract. Assumes nothing.
-use Rattle.interface.specs.Set.{recoverEnd}
-use Rattle.interface.proofs.Images.{few-invalidations-left}
-use Rattle.text.specs.inner.Output.{replySays}
-use Rattle.session.specs.Step.{recoverStep, recoveredBy, recoveredAs}
+use Rattle.interface.specs.Set.{recover_end}
+use Rattle.interface.proofs.Images.{few_invalidations_left}
+use Rattle.text.specs.inner.Output.{reply_says}
+use Rattle.session.specs.Step.{recover_step, recovered_by, recovered_as}
 use borrow.Author.Rules.{rules}
 use Rattle.session_code.proofs.lines.recover_session.Statement.{statement}
 use Rattle.session_code.proofs.lines.recover_session.Tie as tie
@@ -10,10 +10,10 @@ use Rattle.session_code.proofs.lines.recover_session.Tie as tie
 open-slots-requires : tie.Need-open-slots-requires
 open-slots-requires c κs =
     let at-recover = c.before.before.before.before.before.before in
-    few-invalidations-left 1 _ _ _ _ _ _ _ at-recover.recover.ensures
+    few_invalidations_left 1 _ _ _ _ _ _ _ at-recover.recover.ensures
 
 returns : tie.Need-returns
-unfolding recoverStep recoveredBy recoveredAs recoverEnd replySays
+unfolding recover_step recovered_by recovered_as recover_end reply_says
 returns c =
     let at-open-slots = c.before.before.before.before.before in
     rw (
@@ -23,7 +23,7 @@ returns c =
     )
 
 returns-2 : tie.Need-returns-2
-unfolding recoverStep recoveredBy recoveredAs recoverEnd replySays
+unfolding recover_step recovered_by recovered_as recover_end reply_says
 returns-2 c =
     let at-open-slots = c.before.before.before.before.before.before in
     rw (

@@ -1,8 +1,8 @@
 -- `session_code::lines::write_key` meets its contract. Assumes nothing.
 use mathlib.Core.Path.{ap}
 use Rattle.prelude.specs.Answer.{Answer}
-use Rattle.interface.specs.Set.{locateSays, CallResult, ReadOnlyResult}
-use Rattle.session.specs.Step.{word_bytes, modeBy}
+use Rattle.interface.specs.Set.{locate_says, CallResult, ReadOnlyResult}
+use Rattle.session.specs.Step.{word_bytes, mode_by}
 use borrow.Author.Rules.{rules}
 use Rattle.session_code.proofs.lines.write_key.Statement.{statement}
 use Rattle.session_code.proofs.lines.write_key.Tie as tie
@@ -27,7 +27,7 @@ same-length-2 : tie.Need-same-length-2
 same-length-2 c = (slice-known4-to-replace c).replace.auto.1.1.0
 
 returns : tie.Need-returns
-unfolding word_bytes modeBy locateSays
+unfolding word_bytes mode_by locate_says
 returns c =
     let at-replace = slice-known4-to-replace c in
     let at-enum-told = at-replace.before.before.before.before.before.before in
@@ -45,7 +45,7 @@ same-length-4 : tie.Need-same-length-4
 same-length-4 c = (slice-known6-to-insert c).insert.auto.1.1.0
 
 returns-2 : tie.Need-returns-2
-unfolding word_bytes modeBy locateSays
+unfolding word_bytes mode_by locate_says
 returns-2 c =
     let at-insert = slice-known6-to-insert c in
     let at-enum-told2 = at-insert.before.before.before.before.before.before in
@@ -63,7 +63,7 @@ same-length-6 : tie.Need-same-length-6
 same-length-6 c = (slice-known8-to-insert2 c).insert2.auto.1.1.0
 
 returns-3 : tie.Need-returns-3
-unfolding word_bytes modeBy locateSays
+unfolding word_bytes mode_by locate_says
 returns-3 c =
     let at-insert2 = slice-known8-to-insert2 c in
     let at-enum-told3 = at-insert2.before.before.before.before.before.before in

@@ -1,6 +1,6 @@
 -- `session_code::step::carry_line` meets its contract. Assumes nothing.
-use Rattle.text.specs.inner.Output.{replySays}
-use Rattle.session.specs.Step.{lineStep}
+use Rattle.text.specs.inner.Output.{reply_says}
+use Rattle.session.specs.Step.{line_step}
 use borrow.Author.Rules.{rules}
 use Rattle.session_code.proofs.step.carry_line.Statement.{statement}
 use Rattle.session_code.proofs.step.carry_line.Tie as tie
@@ -16,7 +16,7 @@ abbrev remove-line-to-line3 : tie.After-remove-line → tie.After-line3
 remove-line-to-line3 at = at.before.before.before.before.before
 
 pub carry-line-spec : {M : Type 1} → statement M
-unfolding lineStep replySays
+unfolding line_step reply_says
 carry-line-spec =
     tie.close
     (tie.spec

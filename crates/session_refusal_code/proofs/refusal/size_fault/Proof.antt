@@ -1,13 +1,13 @@
 -- `session_refusal_code::refusal::size_fault` meets its contract. Assumes nothing.
 use borrow.Author.Rules.{rules}
 use Rattle.prelude.proofs.Tests.{tests}
-use Rattle.prelude.specs.Refusal.{refuseIf}
-use Rattle.session.specs.Step.{sizeFault}
+use Rattle.prelude.specs.Refusal.{refuse_if}
+use Rattle.session.specs.Step.{size_fault}
 use Rattle.session_refusal_code.proofs.refusal.size_fault.Statement.{statement}
 use Rattle.session_refusal_code.proofs.refusal.size_fault.Tie as tie
 
 pub size-fault-spec : {M : Type 1} → statement M
-unfolding sizeFault refuseIf
+unfolding size_fault refuse_if
 size-fault-spec =
     tie.close
     (tie.spec

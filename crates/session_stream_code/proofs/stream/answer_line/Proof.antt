@@ -1,5 +1,5 @@
 -- `session_stream_code::stream::answer_line` meets its contract. Assumes nothing.
-use Rattle.session.specs.Stream.{answerResult, answeredBy, printedBy}
+use Rattle.session.specs.Stream.{answer_result, answered_by, printed_by}
 use borrow.Author.Rules.{rules}
 use Rattle.session_stream_code.proofs.stream.answer_line.Statement.{statement}
 use Rattle.session_stream_code.proofs.stream.answer_line.Tie as tie
@@ -9,7 +9,7 @@ abbrev render-to-step : tie.After-render → tie.After-step
 render-to-step at = at.before.before.before.before.before.before.before.before
 
 pub answer-line-spec : {M : Type 1} → statement M
-unfolding answerResult answeredBy printedBy
+unfolding answer_result answered_by printed_by
 answer-line-spec =
     tie.close
     (tie.spec

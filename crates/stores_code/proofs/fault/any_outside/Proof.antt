@@ -6,7 +6,7 @@ use lib.Dec.{ltb}
 use lib.ListN.{length, get_or}
 use borrow.Author.Rules.{rules}
 use borrow.Author.Tests.{lt-ltb, le-ltb}
-use Rattle.prelude.proofs.Any.{Going, any-start, any-hit, any_next, any-end}
+use Rattle.prelude.proofs.Any.{Going, any_start, any_hit, any_next, any_end}
 use Rattle.stores_code.proofs.fault.any_outside.Statement.{statement}
 use Rattle.stores_code.proofs.fault.any_outside.Tie as tie
 
@@ -22,12 +22,12 @@ any-outside-spec =
     (tie.spec
     invariant-loop
     decreases-loop
-    (λ c. any-start (omega arith))
+    (λ c. any_start (omega arith))
     (λ c. search rules) (λ c. search rules)
     (λ c. omega (arith, c.shared-slice-known.given c.before.before.loop.i))
     (λ c. omega (arith, c.shared-slice-known.given c.before.before.loop.i))
     (λ c. omega (arith, c.shared-slice-known.given c.before.before.loop.i))
-    (λ c. any-hit c.before.before.before.loop.invariant (search rules) refl (search lt-ltb))
+    (λ c. any_hit c.before.before.before.loop.invariant (search rules) refl (search lt-ltb))
     (λ c. search rules) (λ c. search rules)
     (λ c. any_next c.before.before.before.loop.invariant (search rules) refl (search le-ltb))
-    (λ c. any-end c.before.loop.invariant c.loop-test.false))
+    (λ c. any_end c.before.loop.invariant c.loop-test.false))

@@ -7,7 +7,7 @@ use lib.Dec.{eqb}
 use lib.ListN.{get_or}
 use borrow.Author.Rules.{rules}
 use Rattle.prelude.proofs.Refusals.{apart, alike}
-use Rattle.prelude.proofs.Any.{Going, any-start, any-hit, any_next, any-end}
+use Rattle.prelude.proofs.Any.{Going, any_start, any_hit, any_next, any_end}
 use Rattle.stores_code.proofs.fault.out_of_order.Statement.{statement}
 use Rattle.stores_code.proofs.fault.out_of_order.Tie as tie
 
@@ -23,11 +23,11 @@ out-of-order-spec =
     (tie.spec
     invariant-loop
     decreases-loop
-    (λ c. any-start (omega arith))
+    (λ c. any_start (omega arith))
     (λ c. search rules) (λ c. search rules) (λ c. search rules) (λ c κs. search rules) (λ c. search rules)
-    (λ c. let at-loop = c.before.before.before.before in any-hit at-loop.loop.invariant (search rules) refl
+    (λ c. let at-loop = c.before.before.before.before in any_hit at-loop.loop.invariant (search rules) refl
     (apart _ _ _ _ c.before.as-index.ensures.0 refl c.if1.true))
     (λ c. search rules) (λ c. search rules)
     (λ c. let at-loop = c.before.before.before.before in any_next at-loop.loop.invariant (search rules) refl
     (alike _ _ _ _ c.before.as-index.ensures.0 refl c.if1.false))
-    (λ c. any-end c.before.loop.invariant c.loop-test.false))
+    (λ c. any_end c.before.loop.invariant c.loop-test.false))

@@ -2,7 +2,7 @@
 use Prim.Native.Nat.{◌+◌, ◌-◌}
 use native.Mathlib.Omega.{arith}
 use borrow.Author.Rules.{rules}
-use Rattle.stores.proofs.Making.{Making, making-start, making-next, making-end}
+use Rattle.stores.proofs.Making.{Making, making_start, making_next, making_end}
 use Rattle.stores_code.proofs.make.make_stores.Statement.{statement}
 use Rattle.stores_code.proofs.make.make_stores.Tie as tie
 
@@ -19,11 +19,11 @@ make-stores-spec =
     invariant-loop
     decreases-loop
     (λ c. search rules)
-    (λ c. making-start _ _ _ _ _)
+    (λ c. making_start _ _ _ _ _)
     (λ c. search rules) (λ c. search rules)
     (λ c. omega (arith, c.shared-slice-known3.given c.before.before.loop.k))
     (λ c. search rules) (λ c. search rules)
     (λ c κs. let at-loop = c.before.before.before.before in let at-start = at-loop.before.before.before.before in omega
     (arith, at-start.requires.inside at-loop.loop.k at-loop.loop.invariant.low c.before.before.before.loop-test.true, at-loop.loop.invariant.size))
-    (λ c. search rules) (λ c. search rules) (λ c. search making-next) (λ c. search rules)
-    (λ c. search making-end))
+    (λ c. search rules) (λ c. search rules) (λ c. search making_next) (λ c. search rules)
+    (λ c. search making_end))

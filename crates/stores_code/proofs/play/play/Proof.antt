@@ -2,8 +2,8 @@
 use mathlib.Core.Path.{refl, sym, ◌∙◌}
 use native.Mathlib.Omega.{arith}
 use borrow.Author.Rules.{rules}
-use Rattle.stores.proofs.Plays.{play-refused, play-done}
-use Rattle.stores.proofs.Halves.{playable, half-makeable}
+use Rattle.stores.proofs.Plays.{play_refused, play_done}
+use Rattle.stores.proofs.Halves.{playable, half_makeable}
 use Rattle.stores_code.proofs.play.play.Statement.{statement}
 use Rattle.stores_code.proofs.play.play.Tie as tie
 
@@ -15,13 +15,13 @@ abbrev make-stores2-to-make-stores : tie.After-make-stores2 → tie.After-make-s
 make-stores2-to-make-stores at = at.before.before.before.before.before.before
 
 returns : tie.Need-returns
-returns c = play-refused _ _ _ _ _ _ c.before.play-fault.ensures c.if1.true
+returns c = play_refused _ _ _ _ _ _ c.before.play-fault.ensures c.if1.true
 
 make-stores-requires : tie.Need-make-stores-requires
 make-stores-requires c κs =
     let else1 = c.before.before.before in
     let p = playable _ _ _ _ (sym else1.before.play-fault.ensures ∙ else1.if1.false) in
-    half-makeable _ _ _ _ _ _ p.first p.first_count (omega arith) (search rules) (search rules) refl
+    half_makeable _ _ _ _ _ _ p.first p.first_count (omega arith) (search rules) (search rules) refl
 
 make-stores-requires-2 : tie.Need-make-stores-requires-2
 make-stores-requires-2 c κs =
@@ -29,7 +29,7 @@ make-stores-requires-2 c κs =
     let else1 = make-stores-to-else1 at-make-stores in
     let p = playable _ _ _ _ (sym else1.before.play-fault.ensures ∙ else1.if1.left) in
     let stores = else1.before.before.before.before.before.before.good.1.0 in
-    half-makeable _ _ _ _ _ _ p.second p.second-count (omega arith) (search (rules, stores)) (search (rules, stores))
+    half_makeable _ _ _ _ _ _ p.second p.second_count (omega arith) (search (rules, stores)) (search (rules, stores))
     at-make-stores.make-stores.auto.0
 
 returns-2 : tie.Need-returns-2
@@ -37,7 +37,7 @@ returns-2 c =
     let at-make-stores2 = c.before.before in
     let at-make-stores = make-stores2-to-make-stores at-make-stores2 in
     let else1 = make-stores-to-else1 at-make-stores in
-    play-done _ _ _ _ _ _ else1.before.play-fault.ensures else1.if1.left _ _ at-make-stores.make-stores.ensures
+    play_done _ _ _ _ _ _ else1.before.play-fault.ensures else1.if1.left _ _ at-make-stores.make-stores.ensures
     at-make-stores2.make-stores2.ensures
 
 pub play-spec : {M : Type 1} → statement M

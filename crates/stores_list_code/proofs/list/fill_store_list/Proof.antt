@@ -42,11 +42,11 @@ use denote.Triple.Table.{entered}
 use denote.Triple.Walked.{says, needs, Stays, stay_dropped, stay_slice, walk_of, Goes-dropped, Goes-slice, Walks, ends_at, walked, walk_Meets}
 use denote.Exit.{yes}
 use Rattle.stores.specs.Store.{Store}
-use Rattle.stores.specs.inner.List.{storesPut}
-use Rattle.stores.proofs.ListPut.{put-none, put-length, put_next}
-use Rattle.mir_steps.proofs.Lent.{number, lent_at, OwnsMut, Shuts, dropped, opened, closed, looked, taken, offset-fits}
-use Rattle.mir_steps.proofs.Locals.{Blocks, block, envOf, Frame, allocates, freed, behind}
-use Rattle.mir_steps.proofs.Loop.{Upto, Nearer, nearer-wf, next, nearer, at-end, Turned, tests}
+use Rattle.stores.specs.inner.List.{stores_put}
+use Rattle.stores.proofs.ListPut.{put_none, put_length, put_next}
+use Rattle.mir_steps.proofs.Lent.{number, lent_at, OwnsMut, Shuts, dropped, opened, closed, looked, taken, offset_fits}
+use Rattle.mir_steps.proofs.Locals.{Blocks, block, env_of, Frame, allocates, freed, behind}
+use Rattle.mir_steps.proofs.Loop.{Upto, Nearer, nearer_wf, next, nearer, at-end, Turned, tests}
 use Rattle.mir_steps.proofs.Statements.{copied, field-of, sets}
 use Rattle.stores.specs.contracts.Store as T
 use Rattle.stores.proofs.Store.TheLaws as T'
@@ -99,10 +99,10 @@ module _ {M : Type 1} {𝓤 : Ura M} (𝓛 : Logic 𝓤) (mem : Memory → SProp
 
   -- the list once i stores are put
   abbrev put : ℕ → List Store
-  put i = storesPut at words i list
+  put i = stores_put at words i list
 
   all-put : length (put n) ≡ length list
-  all-put = put-length at words list n within.0 within.1 within.2
+  all-put = put_length at words list n within.0 within.1 within.2
 
   -- what is had at exit
   abbrev Left : List (Item 𝓤)
@@ -119,7 +119,7 @@ module _ {M : Type 1} {𝓤 : Ura M} (𝓛 : Logic 𝓤) (mem : Memory → SProp
 
   module _ (𝓣 : Tables 𝓤 H) (p₁ p₂ : Share) (bs : Blocks body.locals) where
     abbrev En : Env 𝓤 H
-    En = envOf 𝓤 H body.locals bs
+    En = env_of 𝓤 H body.locals bs
 
     -- what the locals hold before a turn
     abbrev held : ℕ → List (Option Val)
@@ -151,13 +151,13 @@ module _ {M : Type 1} {𝓤 : Ura M} (𝓛 : Logic 𝓤) (mem : Memory → SProp
       in₂ = lt_of_lt_of_le more within.2
 
       byte₀ : i.0 * 16 < 2 ^ 64
-      byte₀ = offset-fits 16 i.0 (length list) in₀ room.1
+      byte₀ = offset_fits 16 i.0 (length list) in₀ room.1
 
       byte₁ : i.0 * 4 < 2 ^ 64
-      byte₁ = offset-fits 4 i.0 (length at) in₁ room₁.1
+      byte₁ = offset_fits 4 i.0 (length at) in₁ room₁.1
 
       byte₂ : i.0 * 8 < 2 ^ 64
-      byte₂ = offset-fits 8 i.0 (length words) in₂ room₂.1
+      byte₂ = offset_fits 8 i.0 (length words) in₂ room₂.1
 
       next_fits : i.0 + 1 < 2 ^ 64
       next_fits = lt_of_le_of_lt (next n i more).1 n-fits
@@ -168,7 +168,7 @@ module _ {M : Type 1} {𝓤 : Ura M} (𝓛 : Logic 𝓤) (mem : Memory → SProp
       in_list : i.0 < length (put i.0)
       in_list =
           subst (λ (k : ℕ). i.0 < k) (sym
-          (put-length at words list i.0 (le_trans i.1 within.0) (le_trans i.1 within.1) (le_trans i.1 within.2))) in₀
+          (put_length at words list i.0 (le_trans i.1 within.0) (le_trans i.1 within.1) (le_trans i.1 within.2))) in₀
 
     turns : (i : Upto n) → Sq 𝓛 (At i) (runs 𝓣.C 𝓣.Λ En body.turn-1 (any_q (Turned 𝓛 𝓣 En body.t-3 Post n At i)))
     unfolding after_turn
@@ -229,9 +229,9 @@ module _ {M : Type 1} {𝓤 : Ura M} (𝓛 : Logic 𝓤) (mem : Memory → SProp
       move ! (5 ∷ []) $ fsplit ! $ move ! (6 ∷ []) $ split ! $ move ! (2 ∷ 0 ∷ []) $ looked ! tt u32 (number w32) at b₁ o₁ (λ p₁.
       move ! (3 ∷ []) $ fsplit ! $ move ! (4 ∷ []) $ split ! $ move ! (2 ∷ 0 ∷ []) $ looked ! tt u64 (number w64) words b₂ o₂ (λ p₂.
       -- [words' row and what shuts it; true; what n owns; at's two; list's four; the locals]
-      move ! (2 ∷ 3 ∷ []) $ drop ! $ drop ! $ rewrite ! 4 (λ (l : List Store). ‵ (row T.the_row full_share l b o)) (sym (put-none at words list)) refl $
+      move ! (2 ∷ 3 ∷ []) $ drop ! $ drop ! $ rewrite ! 4 (λ (l : List Store). ‵ (row T.the_row full_share l b o)) (sym (put_none at words list)) refl $
       move ! (1 ∷ 3 ∷ 5 ∷ 6 ∷ 7 ∷ 2 ∷ 0 ∷ 4 ∷ []) $ behind ! 8 $
-      first ! $ blocks ! $ loops ! 𝓣 (Nearer n) (nearer-wf n) (At 𝓣 p₁ p₂ bs) (turns 𝓣 p₁ p₂ bs) (0, zero-le))))
+      first ! $ blocks ! $ loops ! 𝓣 (Nearer n) (nearer_wf n) (At 𝓣 p₁ p₂ bs) (turns 𝓣 p₁ p₂ bs) (0, zero-le))))
 
 module _ {M : Type 1} {𝓤 : Ura M} (𝓛 : Logic 𝓤) (mem : Memory → SProp 𝓤) (run : Routine → Fun 𝓤) (𝓣 : Tables 𝓤 𝓛.H) where
   open 𝓛 use {H}

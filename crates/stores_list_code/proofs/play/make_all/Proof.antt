@@ -47,17 +47,17 @@ use denote.Triple.Table.{entered, cited}
 use denote.Triple.Walked.{says, needs, Stays, stay_dropped, stay_slice, walk_of, Goes-dropped, Goes-slice, Walks, ends_at, walked, walk_Meets}
 use denote.Exit.{yes}
 use Rattle.mir_steps.proofs.Again.{lent_again, comes_back}
-use Rattle.mir_steps.proofs.Lent.{lent_at, OwnsMut, Shuts, number-owned, dropped, looked, taken, offset-fits}
-use Rattle.mir_steps.proofs.Locals.{Blocks, block, envOf, Frame, allocates, freed, behind, sinks}
-use Rattle.mir_steps.proofs.Loop.{Upto, Nearer, nearer-wf, next, nearer, at-end, Turned, tests}
+use Rattle.mir_steps.proofs.Lent.{lent_at, OwnsMut, Shuts, number_owned, dropped, looked, taken, offset_fits}
+use Rattle.mir_steps.proofs.Locals.{Blocks, block, env_of, Frame, allocates, freed, behind, sinks}
+use Rattle.mir_steps.proofs.Loop.{Upto, Nearer, nearer_wf, next, nearer, at-end, Turned, tests}
 use Rattle.mir_steps.proofs.Statements.{copied, field-of, sets, resets}
-use Rattle.words.specs.Word.{setWord}
+use Rattle.words.specs.Word.{set_word}
 use Rattle.stores.specs.Store.{Store, played}
 use Rattle.stores.proofs.Bytes.{played-length}
 use Rattle.stores.specs.contracts.Store as T
 use Rattle.stores.proofs.Store.TheLaws as T'
 use Rattle.stores.specs.inner.List.{AllInside}
-use Rattle.stores.proofs.ListPlay.{none as past, play-none, play-next, play-all}
+use Rattle.stores.proofs.ListPlay.{none as past, play_none, play_next, play_all}
 use Rattle.words_code.specs.contracts.write_word as write
 use Rattle.words_code.proofs.write_word.Symbol as write_def
 use Rattle.words_code.proofs.write_word.Symbol.{name as #write-word}
@@ -130,8 +130,8 @@ module _ {M : Type 1} {𝓤 : Ura M} (𝓛 : Logic 𝓤) (mem : Memory → SProp
     wide : d.word < 2 ^ 64
     wide = omega (arith, word_fits)
 
-    value-fits : d.value < 2 ^ 64
-    value-fits = (LL.owed T.the_type T'.the_laws d _ is).1.0.1
+    value_fits : d.value < 2 ^ 64
+    value_fits = (LL.owed T.the_type T'.the_laws d _ is).1.0.1
 
     abbrev given : Bor (List ℕ) × (ℕ × (ℕ × Unit {0}))
     given = (lent_at u8 b₀ o₀ δ (made i), (d.word, (d.value, tt)))
@@ -143,12 +143,12 @@ module _ {M : Type 1} {𝓤 : Ura M} (𝓛 : Logic 𝓤) (mem : Memory → SProp
     goes-write =
         qed 𝓛 (‵ (flft (α ∷ []) full_share) ∷ ‵ (OwnsMut u8 (α ∷ []) b₀ o₀ δ (made i) (s₀ ∷ [])) ∷ []) ∵ says !
         (subst (λ (k : ℕ). 8 * d.word + 8 ≤ k) (sym (size i)) (within i more)) $
-        nothing ! $ move ! (1 ∷ 0 ∷ []) $ join ! $ frame ! $ nothing ! $ number-owned ! w64 d.value value-fits $ fjoin ! $ number-owned ! w64 d.word wide
+        nothing ! $ move ! (1 ∷ 0 ∷ []) $ join ! $ frame ! $ nothing ! $ number_owned ! w64 d.value value_fits $ fjoin ! $ number_owned ! w64 d.word wide
         $ fjoin ! $ move ! (1 ∷ 0 ∷ []) $ fjoin ! $ done !
 
   module _ (𝓣 : Tables 𝓤 H) (known : Triple 𝓤 (𝓣.C #write-word) (Write 𝓛 mem run)) (p : Share) (bs : Blocks body.locals) where
     abbrev En : Env 𝓤 H
-    En = envOf 𝓤 H body.locals bs
+    En = env_of 𝓤 H body.locals bs
 
     abbrev n : ℕ
     n = length list
@@ -168,7 +168,7 @@ module _ {M : Type 1} {𝓤 : Ura M} (𝓛 : Logic 𝓤) (mem : Memory → SProp
       next_fits = lt_of_le_of_lt (next n i more).1 room.0
 
       byte_fits : i.0 * 16 < 2 ^ 64
-      byte_fits = offset-fits 16 i.0 n more room.1
+      byte_fits = offset_fits 16 i.0 n more room.1
 
     turns : (i : Upto n) → Sq 𝓛 (At i) (runs 𝓣.C 𝓣.Λ En body.turn-1 (any_q (Turned 𝓛 𝓣 En body.t-3 Post n At i)))
     unfolding after_turn
@@ -200,15 +200,15 @@ module _ {M : Type 1} {𝓤 : Ura M} (𝓛 : Logic 𝓤) (mem : Memory → SProp
         (ensured 𝓛 write.ended (write.clauses 𝓛 mem run) (α ∷ [], tt) (given i.0 more is α δ) tt r)))) (id⊢ 𝓤 _) $ await ! tt $ pick ! (λ r.
         split ! $ move ! (1 ∷ []) $ use1 𝓛
         (some (λ (zs : List ℕ × (Unit {0} × (Unit {0} × Unit {0}))). ‵ (lasts write.ended (α ∷ [], tt) (given i.0 more is α δ) zs) ⊛ raw
-        (fact 𝓤 (zs.0 ≡ setWord (made i.0) (get_or list i.0 past).word (get_or list i.0 past).value)))) (id⊢ 𝓤 _) $ pick ! (λ zs.
-        split ! $ move ! (1 ∷ []) $ heard ! (zs.0 ≡ setWord (made i.0) (get_or list i.0 past).word (get_or list i.0 past).value)
+        (fact 𝓤 (zs.0 ≡ set_word (made i.0) (get_or list i.0 past).word (get_or list i.0 past).value)))) (id⊢ 𝓤 _) $ pick ! (λ zs.
+        split ! $ move ! (1 ∷ []) $ heard ! (zs.0 ≡ set_word (made i.0) (get_or list i.0 past).word (get_or list i.0 past).value)
         (λ e. fsplit ! $ fsplit ! $ move ! (1 ∷ []) $ feq_l ! (λ ez. move ! (1 ∷ []) $ drop ! $
         -- [the last bytes; the token and the result; what is kept; the locals; …]
         move ! (1 ∷ []) $ split ! $ move ! (1 ∷ []) $ facts ! unit (Is unit) (shows 𝓛 unit) r (w ∷ []) (λ told.
         land ! (from ! (stop !)) (init ! 21 refl ((Nothing-Lawful 𝓛).typed r _ told).0) $
         split ! $ lft_end ! tt $ move ! (0 ∷ 3 ∷ 2 ∷ []) $ comes_back ! tt u8 κ₀ (α ∷ []) q₀ (made i.0) zs.0 γ₀ δ b₀ o₀ (length image) (size i.0) room₀
         ez $
-        rewrite ! 0 (λ (l : List ℕ). ‵ (OwnsMut u8 κ₀ b₀ o₀ γ₀ l (s₀ ∷ []))) (e ∙ play-next list image i.0 more) refl $
+        rewrite ! 0 (λ (l : List ℕ). ‵ (OwnsMut u8 κ₀ b₀ o₀ γ₀ l (s₀ ∷ []))) (e ∙ play_next list image i.0 more) refl $
         move ! (2 ∷ []) $ drop ! $ move ! (1 ∷ 0 ∷ []) $ sinks ! 25 $ sinks ! 24 $
         assigns_last ! (bin ! (copied ! 6 refl) (lit ! tt) (record { fits = next_fits i more })) (from ! (stop !))
         (store ! 6 refl (tt, record { fits = next_fits i more })) $
@@ -216,7 +216,7 @@ module _ {M : Type 1} {𝓤 : Ura M} (𝓛 : Logic 𝓤) (mem : Memory → SProp
         again ! (Nearer n) At i (next n i more) (nearer n i more)))))))))))
         (λ over. exec ! 𝓣.C 𝓣.Λ En body.t-3 (at_ret En Post) $
         rewrite ! 24 (λ (j : ℕ). ‵ (OwnsMut u8 κ₀ b₀ o₀ γ₀ (made j) (s₀ ∷ []))) (at-end n i over) refl $
-        rewrite ! 24 (λ (l : List ℕ). ‵ (OwnsMut u8 κ₀ b₀ o₀ γ₀ l (s₀ ∷ []))) (play-all list image) refl $
+        rewrite ! 24 (λ (l : List ℕ). ‵ (OwnsMut u8 κ₀ b₀ o₀ γ₀ l (s₀ ∷ []))) (play_all list image) refl $
         sets ! 0 (of_opd ! (unit_lit !)) refl (tt, tt) $
         move ! (26 ∷ 27 ∷ []) $ shuts_slice ! tt T.the_row p list b o $ behind ! 1 $
         returns ! (look ! 0 refl) $ forget ! 0 refl $ forget ! 2 refl $ forget ! 4 refl $ forget ! 6 refl $ forget ! 10 refl $ forget ! 12 refl $ freed !
@@ -232,9 +232,9 @@ module _ {M : Type 1} {𝓤 : Ura M} (𝓛 : Logic 𝓤) (mem : Memory → SProp
       move ! (25 ∷ []) $ fsplit ! $ move ! (1 ∷ []) $ fsplit ! $ move ! (27 ∷ []) $ split ! $ move ! (1 ∷ []) $ split ! $ move ! (3 ∷ 0 ∷ []) $ looked ! tt
       T.the_row struct list b o (λ p.
       -- [the list's row and what shuts it; true; the bytes' token; true; the bytes; the locals]
-      rewrite ! 5 (λ (l : List ℕ). ‵ (OwnsMut u8 κ₀ b₀ o₀ γ₀ l (s₀ ∷ []))) (play-none list image) refl $
+      rewrite ! 5 (λ (l : List ℕ). ‵ (OwnsMut u8 κ₀ b₀ o₀ γ₀ l (s₀ ∷ []))) (play_none list image) refl $
       move ! (2 ∷ 4 ∷ []) $ drop ! $ drop ! $ move ! (3 ∷ 2 ∷ 0 ∷ 1 ∷ []) $ behind ! 4 $
-      first ! $ blocks ! $ loops ! 𝓣 (Nearer (length list)) (nearer-wf (length list)) (At 𝓣 known p bs) (turns 𝓣 known p bs) (0, zero-le)))
+      first ! $ blocks ! $ loops ! 𝓣 (Nearer (length list)) (nearer_wf (length list)) (At 𝓣 known p bs) (turns 𝓣 known p bs) (0, zero-le)))
 
 module _ {M : Type 1} {𝓤 : Ura M} (𝓛 : Logic 𝓤) (mem : Memory → SProp 𝓤) (run : Routine → Fun 𝓤) (𝓣 : Tables 𝓤 𝓛.H)
     (known : Triple 𝓤 (𝓣.C #write-word) (Write 𝓛 mem run)) where

@@ -40,14 +40,14 @@ use denote.Triple.Clauses.{ensured, lasts}
 use denote.Triple.Table.{entered, cited}
 use denote.Triple.Walked.{says, Stays, stay_dropped, gave_slice, walk_of, Goes-dropped, Goes-gave_slice, Walks, ends_at, walked, walk_Meets}
 use denote.Exit.{yes}
-use Rattle.mir_steps.proofs.Lent.{lent_at, OwnsMut, OwnsShr, number-owned, dropped, given-up}
-use Rattle.mir_steps.proofs.Locals.{block, envOf, allocates, freed, behind}
+use Rattle.mir_steps.proofs.Lent.{lent_at, OwnsMut, OwnsShr, number_owned, dropped, given_up}
+use Rattle.mir_steps.proofs.Locals.{block, env_of, allocates, freed, behind}
 use Rattle.mir_steps.proofs.Statements.{copied, field-of, sets}
 use Rattle.stores.specs.Store.{Store, played}
-use Rattle.stores.specs.Play.{wordNumbers, values, listFault, playEnd, playListResult}
-use Rattle.stores.proofs.Plays.{list-refused}
+use Rattle.stores.specs.Play.{word_numbers, values, list_fault, play_end, play_list_result}
+use Rattle.stores.proofs.Plays.{list_refused}
 use Rattle.stores.specs.contracts.Store as T
-use Rattle.stores.proofs.ListPlay.{all-inside, play-done}
+use Rattle.stores.proofs.ListPlay.{all_inside, play_done}
 use Rattle.stores_list_code.specs.contracts.play.stores_fault as fault
 use Rattle.stores_list_code.proofs.play.stores_fault.Symbol as fault-def
 use Rattle.stores_list_code.proofs.play.stores_fault.Symbol.{name as #stores-fault}
@@ -115,12 +115,12 @@ module _ {M : Type 1} {𝓤 : Ura M} (𝓛 : Logic 𝓤) (mem : Memory → SProp
     abbrev Shared : Item 𝓤
     Shared = ‵ (OwnsShr T.the_row κ₁ b o γ list (s ∷ []))
 
-    exits : (r : ℕ) (zs : List ℕ) → r < 2 ^ 32 → length zs ≡ length image → playEnd r zs ≡ playListResult image (wordNumbers list) (values list)
+    exits : (r : ℕ) (zs : List ℕ) → r < 2 ^ 32 → length zs ≡ length image → play_end r zs ≡ play_list_result image (word_numbers list) (values list)
         → ent 𝓤 (⋆ 𝓛 (Tokens ∷ ‵ (finally u8 γ₀ zs) ∷ [])) (Post (vint w32 r))
     exits r zs fits ez e =
         qed 𝓛 (Tokens ∷ ‵ (finally u8 γ₀ zs) ∷ []) ∵
         suffices ! _ (ends_at 𝓛 f.ended stayed (f.clauses 𝓛 mem run) bound (vint w32 r) r (zs, (tt, tt)) (ez, (tt, tt))) $ says ! e $
-        frame ! $ dropped ! 1 $ move ! (1 ∷ 0 ∷ []) $ fjoin ! $ number-owned ! w32 r fits $ move ! (1 ∷ 0 ∷ []) $ done !
+        frame ! $ dropped ! 1 $ move ! (1 ∷ 0 ∷ []) $ fjoin ! $ number_owned ! w32 r fits $ move ! (1 ∷ 0 ∷ []) $ done !
 
     -- ---- `stores_fault`
 
@@ -132,12 +132,12 @@ module _ {M : Type 1} {𝓤 : Ura M} (𝓛 : Logic 𝓤) (mem : Memory → SProp
 
     goes-fault : ent 𝓤 (⋆ 𝓛 ((‵ (flft κ₁ q₁) ⊛ ‵ ftrue) ∷ Shared ∷ [])) ((Fault 𝓛 mem run).pre to-fault)
     goes-fault =
-        qed 𝓛 ((‵ (flft κ₁ q₁) ⊛ ‵ ftrue) ∷ Shared ∷ []) ∵ nothing ! $ number-owned ! w64 (length image) room₀.0 $ fjoin ! $ move ! (2 ∷ 0 ∷ []) $ fjoin ! $
+        qed 𝓛 ((‵ (flft κ₁ q₁) ⊛ ‵ ftrue) ∷ Shared ∷ []) ∵ nothing ! $ number_owned ! w64 (length image) room₀.0 $ fjoin ! $ move ! (2 ∷ 0 ∷ []) $ fjoin ! $
         move ! (1 ∷ 0 ∷ []) $ join ! $ nothing ! $ move ! (1 ∷ 0 ∷ []) $ join ! $ done !
 
     -- the refusal
     abbrev Refusal : ℕ → Type 0
-    Refusal r = r ≡ listFault (length image) (wordNumbers list) (length (values list))
+    Refusal r = r ≡ list_fault (length image) (word_numbers list) (length (values list))
 
     comes-fault : (r : ℕ) → ent 𝓤 (ensured 𝓛 fault.ended (fault.clauses 𝓛 mem run) (κ₁, tt) tested tt r) (fact 𝓤 (Refusal r))
     comes-fault r = ex_e 𝓤 _ (λ ws. snd∗ 𝓤 (sem 𝓛 (lasts fault.ended (κ₁, tt) tested ws)) (fact 𝓤 (Refusal r)))
@@ -152,7 +152,7 @@ module _ {M : Type 1} {𝓤 : Ura M} (𝓛 : Logic 𝓤) (mem : Memory → SProp
 
     goes_make : (r : ℕ) → Refusal r → r ≡ 0 → ent 𝓤 (⋆ 𝓛 Passed) ((Make 𝓛 mem run).pre to_make)
     goes_make r e z =
-        qed 𝓛 Passed ∵ says ! (all-inside (length image) list r e z) $ join ! $ frame ! $ nothing ! $ move ! (2 ∷ 0 ∷ []) $ fjoin ! $
+        qed 𝓛 Passed ∵ says ! (all_inside (length image) list r e z) $ join ! $ frame ! $ nothing ! $ move ! (2 ∷ 0 ∷ []) $ fjoin ! $
         move ! (1 ∷ 0 ∷ []) $ fjoin ! $ done !
 
     module _ (C : Calls 𝓤 H) (Λ : Loops 𝓤 H) (fm : FmC 𝓤 H 𝓛.laws C) (known-fault : Triple 𝓤 (C #stores-fault) (Fault 𝓛 mem run))
@@ -181,14 +181,14 @@ module _ {M : Type 1} {𝓤 : Ura M} (𝓛 : Logic 𝓤) (mem : Memory → SProp
           sets ! 0 (of_opd ! (copied ! 6 refl)) refl (tt, record { fits = told.1 }) $
           returns_within ! Post refl (look ! 0 refl) $ forget ! 0 refl $ forget ! 2 refl $ forget ! 4 refl $ forget ! 6 refl $ forget ! 8 refl $
           forget ! 10 refl $ freed ! body.locals bs [] $
-          move ! (4 ∷ []) $ given-up ! u8 κ₀ image γ₀ b₀ o₀ $ move ! (2 ∷ 1 ∷ []) $ join ! $ move ! (2 ∷ 3 ∷ []) $ drop ! $ drop ! $
-          by ! (exits r image told.1 refl (list-refused image (wordNumbers list) (values list) r e (not-zero r yes-fault))))
-          (λ no-fault. skips ! $ exec ! C Λ (envOf 𝓤 H body.locals bs) body.t-5 (at_ret (envOf 𝓤 H body.locals bs) Post) $
+          move ! (4 ∷ []) $ given_up ! u8 κ₀ image γ₀ b₀ o₀ $ move ! (2 ∷ 1 ∷ []) $ join ! $ move ! (2 ∷ 3 ∷ []) $ drop ! $ drop ! $
+          by ! (exits r image told.1 refl (list_refused image (word_numbers list) (values list) r e (not-zero r yes-fault))))
+          (λ no_fault. skips ! $ exec ! C Λ (env_of 𝓤 H body.locals bs) body.t-5 (at_ret (env_of 𝓤 H body.locals bs) Post) $
           sets ! 14 (addr ! (from ! (fld ! refl (hop ! (look_in ! 2 (sub ! 0 refl (whole !))) (stop !))))) refl (tt, tt) $
           sets ! 16 (agg ! (and_then ! (copied ! 14 refl) (and_then ! (field-of ! 2 1 refl refl refl) (no_more !)))) refl
           (tt, (tt, (record { fits = room₀.0 }, tt))) $
           -- `make_all`
-          move ! (19 ∷ 18 ∷ 22 ∷ 20 ∷ []) $ group ! 4 $ use1 𝓛 (raw ((Make 𝓛 mem run).pre to_make)) (goes_make r e (is_zero r no-fault)) $
+          move ! (19 ∷ 18 ∷ 22 ∷ 20 ∷ []) $ group ! 4 $ use1 𝓛 (raw ((Make 𝓛 mem run).pre to_make)) (goes_make r e (is_zero r no_fault)) $
           calls_at ! fm (Make 𝓛 mem run) known-make to_make (and_then ! (copied ! 17 refl) (and_then ! (copied ! 5 refl) (no_more !))) (λ u.
           use1 𝓛 (later (some (λ (t : Unit {0}). (Tokens ⊛ ‵ (unit.own_val t (u ∷ []))) ⊛ raw
           (ensured 𝓛 make.ended (make.clauses 𝓛 mem run) (κ₀, (κ₁, tt)) a tt t)))) (id⊢ 𝓤 _) $ await ! tt $ pick ! (λ t.
@@ -201,7 +201,7 @@ module _ {M : Type 1} {𝓤 : Ura M} (𝓛 : Logic 𝓤) (mem : Memory → SProp
           sets ! 0 (of_opd ! (lit ! tt)) refl (tt, record { fits = lit< tt }) $
           returns ! (look ! 0 refl) $ forget ! 0 refl $ forget ! 2 refl $ forget ! 4 refl $ forget ! 6 refl $ forget ! 8 refl $ forget ! 10 refl $ forget ! 12
           refl $ forget ! 14 refl $ forget ! 16 refl $ freed ! body.locals bs [] $
-          drop ! $ by ! (exits 0 zs.0 (lit< tt) ez (play-done image list r e (is_zero r no-fault) zs.0 ep))))))))))))))
+          drop ! $ by ! (exits 0 zs.0 (lit< tt) ez (play_done image list r e (is_zero r no_fault) zs.0 ep))))))))))))))
 
 module _ {M : Type 1} {𝓤 : Ura M} (𝓛 : Logic 𝓤) (mem : Memory → SProp 𝓤) (run : Routine → Fun 𝓤) (𝓣 : Tables 𝓤 𝓛.H)
     (known-fault : Triple 𝓤 (𝓣.C #stores-fault) (Fault 𝓛 mem run)) (known-make : Triple 𝓤 (𝓣.C #make-all) (Make 𝓛 mem run)) where

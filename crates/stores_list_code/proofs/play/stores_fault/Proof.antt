@@ -44,15 +44,15 @@ use denote.Triple.Clauses.{ensured, lasts}
 use denote.Triple.Table.{entered, cited}
 use denote.Triple.Walked.{says, Stays, stay_dropped, walk_of, Goes-dropped, Walks, ends_at, walked, walk_Meets}
 use denote.Exit.{yes}
-use Rattle.mir_steps.proofs.Lent.{lent_at, Shuts, number-owned, dropped, looked, taken, offset-fits}
-use Rattle.mir_steps.proofs.Locals.{Blocks, block, envOf, Frame, allocates, freed, behind, sinks}
-use Rattle.mir_steps.proofs.Loop.{Upto, Nearer, nearer-wf, next, nearer, at-end, Turned, tests}
+use Rattle.mir_steps.proofs.Lent.{lent_at, Shuts, number_owned, dropped, looked, taken, offset_fits}
+use Rattle.mir_steps.proofs.Locals.{Blocks, block, env_of, Frame, allocates, freed, behind, sinks}
+use Rattle.mir_steps.proofs.Loop.{Upto, Nearer, nearer_wf, next, nearer, at-end, Turned, tests}
 use Rattle.mir_steps.proofs.Statements.{copied, field-of, sets, resets}
-use Rattle.prelude.specs.Refusal.{refuseIf}
+use Rattle.prelude.specs.Refusal.{refuse_if}
 use Rattle.stores.specs.Store.{Store}
 use Rattle.stores.specs.contracts.Store as T
 use Rattle.stores.proofs.Store.TheLaws as T'
-use Rattle.stores.proofs.ListPlay.{none as past, faultTo, fault-none, fault-fits, fault-next, fault-all}
+use Rattle.stores.proofs.ListPlay.{none as past, fault_to, fault_none, fault_fits, fault_next, fault_all}
 use Rattle.stores_list_code.proofs.Struct.{struct}
 use Rattle.stores_list_code.specs.contracts.play.fault_with as fault
 use Rattle.stores_list_code.proofs.play.fault_with.Symbol as fault-def
@@ -92,14 +92,14 @@ module _ {M : Type 1} {𝓤 : Ura M} (𝓛 : Logic 𝓤) (mem : Memory → SProp
 
   -- the refusal by the first i stores
   abbrev found : ℕ → ℕ
-  found i = faultTo len list i
+  found i = fault_to len list i
 
   exits : ent 𝓤 (⋆ 𝓛 (‵ (flft κ q) ∷ [])) (Post (vint w32 (found (length list))))
   exits =
       qed 𝓛 (‵ (flft κ q) ∷ []) ∵
       suffices ! _ (ends_at 𝓛 f.ended stayed (f.clauses 𝓛 mem run) bound (vint w32 (found (length list))) (found (length list)) (tt, (tt, tt))
-      (tt, (tt, tt))) $ says ! (fault-all len list) $
-      nothing ! $ move ! (1 ∷ 0 ∷ []) $ join ! $ frame ! $ dropped ! 2 $ frame ! $ number-owned ! w32 (found (length list)) (fault-fits len list (length list))
+      (tt, (tt, tt))) $ says ! (fault_all len list) $
+      nothing ! $ move ! (1 ∷ 0 ∷ []) $ join ! $ frame ! $ dropped ! 2 $ frame ! $ number_owned ! w32 (found (length list)) (fault_fits len list (length list))
       $ done !
 
   -- ---- `fault_with`
@@ -119,17 +119,17 @@ module _ {M : Type 1} {𝓤 : Ura M} (𝓛 : Logic 𝓤) (mem : Memory → SProp
 
     goes-fault : ent 𝓤 (emp 𝓤) ((Fault 𝓛 mem run).pre to-fault)
     goes-fault =
-        qed 𝓛 [] ∵ nothing ! $ nothing ! $ number-owned ! w32 word word_fits $ fjoin ! $ number-owned ! w64 len len-fits $ fjoin ! $ number-owned ! w32
-        (found i) (fault-fits len list i) $ fjoin ! $
+        qed 𝓛 [] ∵ nothing ! $ nothing ! $ number_owned ! w32 word word_fits $ fjoin ! $ number_owned ! w64 len len-fits $ fjoin ! $ number_owned ! w32
+        (found i) (fault_fits len list i) $ fjoin ! $
         nothing ! $ join ! $ join ! $ done !
 
     comes-fault : (r : ℕ) → ent 𝓤 (ensured 𝓛 fault.ended (fault.clauses 𝓛 mem run) tt given tt r)
-        (fact 𝓤 (r ≡ refuseIf (ltb len (8 * word + 8)) 15 (found i)))
-    comes-fault r = ex_e 𝓤 _ (λ ws. snd∗ 𝓤 (sem 𝓛 (lasts fault.ended tt given ws)) (fact 𝓤 (r ≡ refuseIf (ltb len (8 * word + 8)) 15 (found i))))
+        (fact 𝓤 (r ≡ refuse_if (ltb len (8 * word + 8)) 15 (found i)))
+    comes-fault r = ex_e 𝓤 _ (λ ws. snd∗ 𝓤 (sem 𝓛 (lasts fault.ended tt given ws)) (fact 𝓤 (r ≡ refuse_if (ltb len (8 * word + 8)) 15 (found i))))
 
   module _ (𝓣 : Tables 𝓤 H) (known : Triple 𝓤 (𝓣.C #fault-with) (Fault 𝓛 mem run)) (p : Share) (bs : Blocks body.locals) where
     abbrev En : Env 𝓤 H
-    En = envOf 𝓤 H body.locals bs
+    En = env_of 𝓤 H body.locals bs
 
     abbrev n : ℕ
     n = length list
@@ -147,7 +147,7 @@ module _ {M : Type 1} {𝓤 : Ura M} (𝓛 : Logic 𝓤) (mem : Memory → SProp
       next_fits = lt_of_le_of_lt (next n i more).1 room.0
 
       byte_fits : i.0 * 16 < 2 ^ 64
-      byte_fits = offset-fits 16 i.0 n more room.1
+      byte_fits = offset_fits 16 i.0 n more room.1
 
     turns : (i : Upto n) → Sq 𝓛 (At i) (runs 𝓣.C 𝓣.Λ En body.turn-1 (any_q (Turned 𝓛 𝓣 En body.t-4 Post n At i)))
     unfolding after_turn
@@ -168,19 +168,19 @@ module _ {M : Type 1} {𝓤 : Ura M} (𝓛 : Logic 𝓤) (mem : Memory → SProp
         (and_then ! (copied ! 7 refl) (and_then ! (copied ! 5 refl) (and_then ! (copied ! 17 refl) (no_more !)))) (λ w.
         use1 𝓛 (later (some (λ (r : ℕ). (‵ ftrue ⊛ ‵ (u32.own_val r (w ∷ []))) ⊛ raw
         (ensured 𝓛 fault.ended (fault.clauses 𝓛 mem run) tt (given i.0 is) tt r)))) (id⊢ 𝓤 _) $ await ! tt $ pick ! (λ r.
-        split ! $ move ! (1 ∷ []) $ use1 𝓛 (raw (fact 𝓤 (r ≡ refuseIf (ltb len (8 * word i.0 is + 8)) 15 (found i.0)))) (comes-fault i.0 is r) $ heard
-        ! (r ≡ refuseIf (ltb len (8 * word i.0 is + 8)) 15 (found i.0)) (λ e.
+        split ! $ move ! (1 ∷ []) $ use1 𝓛 (raw (fact 𝓤 (r ≡ refuse_if (ltb len (8 * word i.0 is + 8)) 15 (found i.0)))) (comes-fault i.0 is r) $ heard
+        ! (r ≡ refuse_if (ltb len (8 * word i.0 is + 8)) 15 (found i.0)) (λ e.
         split ! $ drop ! $ facts ! u32 (Is u32) (shows 𝓛 u32) r (w ∷ []) (λ told.
         land ! (from ! (stop !)) (store ! 6 refl ((uint_Lawful 𝓛 w32).typed r _ told).0) $
         rewrite ! 6 (λ (v : Val). ‵ (fat full_share (ty_int w32) (block body.locals bs 3) 0 v))
-        (ap only told.0 ∙ ap (vint w32) (e ∙ fault-next len list i.0)) refl $
+        (ap only told.0 ∙ ap (vint w32) (e ∙ fault_next len list i.0)) refl $
         assigns_last ! (bin ! (copied ! 8 refl) (lit ! tt) (record { fits = next_fits i more })) (from ! (stop !))
         (store ! 8 refl (tt, record { fits = next_fits i more })) $
         forget ! 10 refl $ forget ! 12 refl $ forget ! 14 refl $ forget ! 16 refl $
         again ! (Nearer n) At i (next n i more) (nearer n i more)))))))
         (λ over. exec ! 𝓣.C 𝓣.Λ En body.t-4 (at_ret En Post) $
         rewrite ! 6 (λ (j : ℕ). ‵ (fat full_share (ty_int w32) (block body.locals bs 3) 0 (vint w32 (found j)))) (at-end n i over) refl $
-        sets ! 0 (of_opd ! (copied ! 6 refl)) refl (tt, record { fits = fault-fits len list n }) $
+        sets ! 0 (of_opd ! (copied ! 6 refl)) refl (tt, record { fits = fault_fits len list n }) $
         move ! (18 ∷ 19 ∷ []) $ shuts_slice ! tt T.the_row p list b o $ behind ! 1 $
         returns ! (look ! 0 refl) $ forget ! 0 refl $ forget ! 2 refl $ forget ! 4 refl $ forget ! 6 refl $ forget ! 8 refl $ forget ! 10 refl $ forget ! 12
         refl $ freed ! body.locals bs [] $ by ! exits)
@@ -193,11 +193,11 @@ module _ {M : Type 1} {𝓤 : Ura M} (𝓛 : Logic 𝓤) (mem : Memory → SProp
       pass1 ! (init ! 2 refl (tt, (tt, (record { fits = room.0 }, tt)))) $ pass1 ! (init ! 4 refl (tt, record { fits = len-fits })) $ pass0 ! $
       sets ! 6 (of_opd ! (lit ! tt)) refl (tt, record { fits = lit< tt }) $
       sets ! 8 (of_opd ! (lit ! tt)) refl (tt, record { fits = lit< tt }) $
-      rewrite ! 6 (λ (k : ℕ). ‵ (fat full_share (ty_int w32) (block body.locals bs 3) 0 (vint w32 k))) (fault-none len list) refl $
+      rewrite ! 6 (λ (k : ℕ). ‵ (fat full_share (ty_int w32) (block body.locals bs 3) 0 (vint w32 k))) (fault_none len list) refl $
       move ! (19 ∷ []) $ fsplit ! $ move ! (20 ∷ []) $ split ! $ move ! (2 ∷ 0 ∷ []) $ looked ! tt T.the_row struct list b o (λ p.
       -- [the list's row and what shuts it; true; what len owns; the locals]
       move ! (2 ∷ 3 ∷ []) $ drop ! $ drop ! $ behind ! 2 $
-      first ! $ blocks ! $ loops ! 𝓣 (Nearer (length list)) (nearer-wf (length list)) (At 𝓣 known p bs) (turns 𝓣 known p bs) (0, zero-le)))
+      first ! $ blocks ! $ loops ! 𝓣 (Nearer (length list)) (nearer_wf (length list)) (At 𝓣 known p bs) (turns 𝓣 known p bs) (0, zero-le)))
 
 module _ {M : Type 1} {𝓤 : Ura M} (𝓛 : Logic 𝓤) (mem : Memory → SProp 𝓤) (run : Routine → Fun 𝓤) (𝓣 : Tables 𝓤 𝓛.H)
     (known : Triple 𝓤 (𝓣.C #fault-with) (Fault 𝓛 mem run)) where

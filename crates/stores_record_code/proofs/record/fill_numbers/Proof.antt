@@ -3,7 +3,7 @@ use mathlib.Core.Path.{refl}
 use Prim.Native.Nat.{◌-◌}
 use native.Mathlib.Omega.{arith}
 use borrow.Author.Rules.{rules}
-use Rattle.stores.proofs.Pasted.{Numbering, numbering_start, numbering-next, numbering-end}
+use Rattle.stores.proofs.Pasted.{Numbering, numbering_start, numbering_next, numbering_end}
 use Rattle.stores_record_code.proofs.record.fill_numbers.Statement.{statement}
 use Rattle.stores_record_code.proofs.record.fill_numbers.Tie as tie
 
@@ -23,6 +23,6 @@ fill-numbers-spec =
     (λ c. numbering_start _ _ _)
     (λ c. search rules) (λ c. search rules) (λ c. search rules) (λ c. search rules) (λ c. search rules)
     (λ c. omega (arith, c.loop-test.true))
-    (λ c. numbering-next _ _ _ _ _ _ _ c.before.loop.invariant c.loop-test.true c.before.before.requires.1 refl)
+    (λ c. numbering_next _ _ _ _ _ _ _ c.before.loop.invariant c.loop-test.true c.before.before.requires.1 refl)
     (λ c. c.before.loop.invariant.fill.size)
-    (λ c. numbering-end _ _ _ _ _ _ c.before.loop.invariant c.before.before.requires.1 c.loop-test.false))
+    (λ c. numbering_end _ _ _ _ _ _ c.before.loop.invariant c.before.before.requires.1 c.loop-test.false))

@@ -3,7 +3,7 @@ use mathlib.Core.List.{[], ◌∷◌}
 use native.Mathlib.Omega.{arith}
 use lib.ListN.{length-set}
 use borrow.Author.Rules.{rules}
-use Rattle.stores.proofs.Pasted.{stored-pasted}
+use Rattle.stores.proofs.Pasted.{stored_pasted}
 use Rattle.stores_record_code.proofs.record.put_line.Statement.{statement}
 use Rattle.stores_record_code.proofs.record.put_line.Tie as tie
 
@@ -26,4 +26,4 @@ put-line-spec =
     (λ c. search rules) (λ c. search rules)
     (λ c. simp length-set (omega arith))
     (λ c. search rules)
-    (λ c. stored-pasted _ _ _ (_ ∷ _ ∷ _ ∷ _ ∷ _ ∷ _ ∷ _ ∷ []) c.requires))
+    (λ c. stored_pasted _ _ _ (_ ∷ _ ∷ _ ∷ _ ∷ _ ∷ _ ∷ _ ∷ []) c.requires))

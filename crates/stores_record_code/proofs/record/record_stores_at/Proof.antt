@@ -1,6 +1,6 @@
 -- `stores_record_code::record::record_stores_at` meets its contract. Assumes nothing.
 use borrow.Author.Rules.{rules}
-use Rattle.stores.proofs.Pasted.{numbers-pasted, values-pasted}
+use Rattle.stores.proofs.Pasted.{numbers_pasted, values-pasted}
 use Rattle.stores_record_code.proofs.record.record_stores_at.Statement.{statement}
 use Rattle.stores_record_code.proofs.record.record_stores_at.Tie as tie
 
@@ -17,7 +17,7 @@ returns c =
     let at-read-word = at-read-word2.before in
     let at-start = at-read-word.before.before.before.before.before in (
       (
-        numbers-pasted _ _ _ _ _ _ _ _ _ _ at-read-word.read_word.ensures at-read-word2.read-word2.ensures _ _ _
+        numbers_pasted _ _ _ _ _ _ _ _ _ _ at-read-word.read_word.ensures at-read-word2.read-word2.ensures _ _ _
             at-fill-numbers.fill-numbers.ensures,
         values-pasted _ _ _ _ _ _ _ _ _ _ at-read-word.read_word.ensures at-read-word2.read-word2.ensures at-start.pre.0.layout
             at-start.pre.0.size _ _ _ _ _ at-start.pre.4 at-fill-frame.before.before.kind-word.ensures at-fill-frame.fill_frame.ensures

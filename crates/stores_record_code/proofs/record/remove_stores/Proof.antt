@@ -1,6 +1,6 @@
 -- `stores_record_code::record::remove_stores` meets its contract. Assumes nothing.
 use borrow.Author.Rules.{rules}
-use Rattle.stores.proofs.Pasted.{whole-frame}
+use Rattle.stores.proofs.Pasted.{whole_frame}
 use Rattle.stores_record_code.proofs.record.remove_stores.Statement.{statement}
 use Rattle.stores_record_code.proofs.record.remove_stores.Tie as tie
 
@@ -10,4 +10,4 @@ remove-stores-spec =
     (tie.spec
     (λ c. search rules) (λ c. search rules) (λ c κs. search rules) (λ c. search rules) (λ c. search rules)
     (λ c κs. search rules) (λ c κs. search rules) (λ c κs. search rules) (λ c κs. search rules)
-    (λ c. search (whole-frame, rules)))
+    (λ c. search (whole_frame, rules)))

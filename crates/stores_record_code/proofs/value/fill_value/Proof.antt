@@ -3,7 +3,7 @@ use mathlib.Core.Path.{◌∙◌}
 use Prim.Native.Nat.{◌-◌}
 use native.Mathlib.Omega.{arith}
 use borrow.Author.Rules.{rules}
-use Rattle.stores.proofs.Placed.{Filling, filling-start, filling-next, filling-end}
+use Rattle.stores.proofs.Placed.{Filling, filling_start, filling_next, filling_end}
 use Rattle.stores_record_code.proofs.value.fill_value.Statement.{statement}
 use Rattle.stores_record_code.proofs.value.fill_value.Tie as tie
 
@@ -30,7 +30,7 @@ loop-less c =
 loop-again : tie.Need-loop-preserved invariant-loop decreases-loop
 loop-again c =
     let at-fill-word = c.before.before in
-    filling-next _ _ _ _ _ _ _ _ at-fill-word.before.before.before.loop.invariant (omega (arith, at-fill-word.before.before.loop-test.true))
+    filling_next _ _ _ _ _ _ _ _ at-fill-word.before.before.before.loop.invariant (omega (arith, at-fill-word.before.before.loop-test.true))
     at-fill-word.fill-word.ensures.0 at-fill-word.fill-word.ensures.1
 
 fill-rest-requires : tie.Need-fill-rest-requires invariant-loop decreases-loop
@@ -49,13 +49,13 @@ returns : tie.Need-returns invariant-loop decreases-loop
 returns c =
     let at-fill-rest = c.before.before in
     let at_exit = at-fill-rest.before.before.before in
-    filling-end _ _ _ _ _ _
-    (filling-next _ _ _ _ _ _ _ _ at_exit.before.loop.invariant (omega (arith, at-fill-rest.before.before.if1.true)) at-fill-rest.fill-rest.ensures.0
+    filling_end _ _ _ _ _ _
+    (filling_next _ _ _ _ _ _ _ _ at_exit.before.loop.invariant (omega (arith, at-fill-rest.before.before.if1.true)) at-fill-rest.fill-rest.ensures.0
     at-fill-rest.fill-rest.ensures.1)
     (omega (arith, at-fill-rest.fill-rest.ensures.0, at_exit.loop-test.false))
 
 returns-2 : tie.Need-returns-2 invariant-loop decreases-loop
-returns-2 c = filling-end _ _ _ _ _ _ c.before.before.loop.invariant (omega (arith, c.if1.false))
+returns-2 c = filling_end _ _ _ _ _ _ c.before.before.loop.invariant (omega (arith, c.if1.false))
 
 pub fill-value-spec : {M : Type 1} → statement M
 fill-value-spec =
@@ -63,7 +63,7 @@ fill-value-spec =
     (tie.spec
     invariant-loop
     decreases-loop
-    (λ c. filling-start _ _ _ _)
+    (λ c. filling_start _ _ _ _)
     fill-word-requires
     loop-less
     loop-again

@@ -1,11 +1,11 @@
 -- `text_code::input::add_digit` meets its contract. Assumes nothing.
-use Rattle.text.specs.Parsing.{addDigit}
+use Rattle.text.specs.Parsing.{add_digit}
 use borrow.Author.Rules.{rules}
 use Rattle.text_code.proofs.input.add_digit.Statement.{statement}
 use Rattle.text_code.proofs.input.add_digit.Tie as tie
 
 pub add-digit-spec : {M : Type 1} → statement M
-unfolding addDigit
+unfolding add_digit
 add-digit-spec =
     tie.close
     (tie.spec

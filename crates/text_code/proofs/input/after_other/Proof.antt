@@ -1,12 +1,12 @@
 -- `text_code::input::after_other` meets its contract. Assumes nothing.
 use mathlib.Core.Path.{refl}
 use borrow.Author.Rules.{rules}
-use Rattle.text.specs.Parsing.{afterOther}
+use Rattle.text.specs.Parsing.{after_other}
 use Rattle.text_code.proofs.input.after_other.Statement.{statement}
 use Rattle.text_code.proofs.input.after_other.Tie as tie
 
 pub after-other-spec : {M : Type 1} → statement M
-unfolding afterOther
+unfolding after_other
 after-other-spec =
     tie.close
     (tie.spec

@@ -1,12 +1,12 @@
 -- `text_code::input::after_space` meets its contract. Assumes nothing.
 use mathlib.Core.Path.{refl}
 use borrow.Author.Rules.{rules}
-use Rattle.text.specs.Parsing.{afterSpace}
+use Rattle.text.specs.Parsing.{after_space}
 use Rattle.text_code.proofs.input.after_space.Statement.{statement}
 use Rattle.text_code.proofs.input.after_space.Tie as tie
 
 pub after-space-spec : {M : Type 1} → statement M
-unfolding afterSpace
+unfolding after_space
 after-space-spec =
     tie.close
     (tie.spec

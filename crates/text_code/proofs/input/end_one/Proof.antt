@@ -1,11 +1,11 @@
 -- `text_code::input::end_one` meets its contract. Assumes nothing.
-use Rattle.text.specs.Parsing.{endOne}
+use Rattle.text.specs.Parsing.{end_one}
 use borrow.Author.Rules.{rules}
 use Rattle.text_code.proofs.input.end_one.Statement.{statement}
 use Rattle.text_code.proofs.input.end_one.Tie as tie
 
 pub end-one-spec : {M : Type 1} → statement M
-unfolding endOne
+unfolding end_one
 end-one-spec =
     tie.close
     (tie.spec

@@ -1,11 +1,11 @@
 -- `text_code::input::end_two` meets its contract. Assumes nothing.
-use Rattle.text.specs.Parsing.{endTwo}
+use Rattle.text.specs.Parsing.{end_two}
 use borrow.Author.Rules.{rules}
 use Rattle.text_code.proofs.input.end_two.Statement.{statement}
 use Rattle.text_code.proofs.input.end_two.Tie as tie
 
 pub end-two-spec : {M : Type 1} → statement M
-unfolding endTwo
+unfolding end_two
 end-two-spec =
     tie.close
     (tie.spec

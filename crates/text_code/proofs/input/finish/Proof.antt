@@ -1,11 +1,11 @@
 -- `text_code::input::finish` meets its contract. Assumes nothing.
-use Rattle.text.specs.Parsing.{lineRead}
+use Rattle.text.specs.Parsing.{line_read}
 use borrow.Author.Rules.{rules}
 use Rattle.text_code.proofs.input.finish.Statement.{statement}
 use Rattle.text_code.proofs.input.finish.Tie as tie
 
 pub finish_spec : {M : Type 1} → statement M
-unfolding lineRead
+unfolding line_read
 finish_spec =
     tie.close
     (tie.spec

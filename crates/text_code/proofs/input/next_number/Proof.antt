@@ -1,11 +1,11 @@
 -- `text_code::input::next_number` meets its contract. Assumes nothing.
-use Rattle.text.specs.Parsing.{nextNumber}
+use Rattle.text.specs.Parsing.{next_number}
 use borrow.Author.Rules.{rules}
 use Rattle.text_code.proofs.input.next_number.Statement.{statement}
 use Rattle.text_code.proofs.input.next_number.Tie as tie
 
 pub next-number-spec : {M : Type 1} → statement M
-unfolding nextNumber
+unfolding next_number
 next-number-spec =
     tie.close
     (tie.spec

@@ -4,7 +4,7 @@ use Prim.Native.Nat.{◌+◌, ◌-◌}
 use native.Mathlib.Omega.{arith}
 use lib.ListN.{length, drop}
 use borrow.Author.Rules.{rules}
-use Rattle.prelude.proofs.Buffers.{Fill, fill_begins, element-on, elements-end}
+use Rattle.prelude.proofs.Buffers.{Fill, fill_begins, element_on, elements_end}
 use Rattle.text.proofs.Storing.{written-sets}
 use Rattle.text_code.proofs.output.store_bytes.Statement.{statement}
 use Rattle.text_code.proofs.output.store_bytes.Tie as tie
@@ -23,6 +23,6 @@ store-bytes-spec =
     decreases-loop
     (λ c. fill_begins (omega arith) refl)
     (λ c. search rules) (λ c. search rules) (λ c. search rules) (λ c. search rules) (λ c. search rules)
-    (λ c. element-on 0 c.before.before.loop.invariant (omega arith) refl refl)
+    (λ c. element_on 0 c.before.before.loop.invariant (omega arith) refl refl)
     (λ c. c.before.loop.invariant.size)
-    (λ c. elements-end c.before.loop.invariant (omega arith) ∙ sym (written-sets _ _ _)))
+    (λ c. elements_end c.before.loop.invariant (omega arith) ∙ sym (written-sets _ _ _)))

@@ -1,5 +1,5 @@
 -- `text_code::output::store_number` meets its contract. Assumes nothing.
-use Rattle.text.proofs.Storing.{number-wrote}
+use Rattle.text.proofs.Storing.{number_wrote}
 use borrow.Author.Rules.{rules}
 use Rattle.text_code.proofs.output.store_number.Statement.{statement}
 use Rattle.text_code.proofs.output.store_number.Tie as tie
@@ -11,4 +11,4 @@ store-number-spec =
     (λ c. search rules) (λ c κs. search rules) (λ c. search rules) (λ c κs. search rules) (λ c. search rules)
     (λ c. search rules) (λ c. search rules) (λ c. search rules) (λ c κs. search rules) (λ c. search rules)
     (λ c. search rules) (λ c. search rules) (λ c. search rules)
-    (λ c. search number-wrote))
+    (λ c. search number_wrote))

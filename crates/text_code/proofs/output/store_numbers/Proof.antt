@@ -1,5 +1,5 @@
 -- `text_code::output::store_numbers` meets its contract. Assumes nothing.
-use Rattle.text.proofs.Storing.{numbers-wrote}
+use Rattle.text.proofs.Storing.{numbers_wrote}
 use borrow.Author.Rules.{rules}
 use Rattle.text_code.proofs.output.store_numbers.Statement.{statement}
 use Rattle.text_code.proofs.output.store_numbers.Tie as tie
@@ -10,4 +10,4 @@ store-numbers-spec =
     (tie.spec
     (λ c. search rules) (λ c κs. search rules) (λ c. search rules) (λ c. search rules) (λ c. search rules)
     (λ c κs. search rules) (λ c. search rules)
-    (λ c. search numbers-wrote))
+    (λ c. search numbers_wrote))

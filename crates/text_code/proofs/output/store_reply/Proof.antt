@@ -1,13 +1,13 @@
 -- `text_code::output::store_reply` meets its contract. Assumes nothing.
 use Rattle.text.specs.Output.{text}
-use Rattle.text.specs.inner.Output.{replySays}
+use Rattle.text.specs.inner.Output.{reply_says}
 use Rattle.text.proofs.Storing.{wrote_nothing}
 use borrow.Author.Rules.{rules}
 use Rattle.text_code.proofs.output.store_reply.Statement.{statement}
 use Rattle.text_code.proofs.output.store_reply.Tie as tie
 
 pub store-reply-spec : {M : Type 1} → statement M
-unfolding text replySays
+unfolding text reply_says
 store-reply-spec =
     tie.close
     (tie.spec

@@ -1,11 +1,11 @@
 -- `trace_code::stream::trace_answer` meets its contract. Assumes nothing.
-use Rattle.session.specs.Stream.{answerResult, answeredBy, printedBy}
+use Rattle.session.specs.Stream.{answer_result, answered_by, printed_by}
 use borrow.Author.Rules.{rules}
 use Rattle.trace_code.proofs.stream.trace_answer.Statement.{statement}
 use Rattle.trace_code.proofs.stream.trace_answer.Tie as tie
 
 returns : tie.Need-returns
-unfolding answerResult answeredBy printedBy
+unfolding answer_result answered_by printed_by
 returns c =
     let at-render = c.before.before.before in
     let at_copy = at-render.before.before.before.before.before in

@@ -1,9 +1,9 @@
 -- `trace_step_code::step::trace_step` meets its contract. Assumes nothing.
 use native.Mathlib.Omega.{arith}
 use Rattle.prelude.proofs.Lists.{front_length}
-use Rattle.text.specs.inner.Output.{replySays}
-use Rattle.session.proofs.Steps.{count_fits, bytes_fit, image-fits, heads-fit, next_fits}
-use Rattle.trace.proofs.Steps.{front-room, trace-refused, trace-done}
+use Rattle.text.specs.inner.Output.{reply_says}
+use Rattle.session.proofs.Steps.{count_fits, bytes_fit, image_fits, heads_fit, next_fits}
+use Rattle.trace.proofs.Steps.{front_room, trace_refused, trace_done}
 use borrow.Author.Rules.{rules}
 use Rattle.trace_step_code.proofs.step.trace_step.Statement.{statement}
 use Rattle.trace_step_code.proofs.step.trace_step.Tie as tie
@@ -19,32 +19,32 @@ abbrev next-to-trace-line : tie.After-next → tie.After-trace-line
 next-to-trace-line at = at.before.before.before.before.before
 
 returns : tie.Need-returns
-unfolding replySays
-returns c = trace-refused _ _ c.before.before.without-cut.ensures _ _ _ _ _ _ _ c.before.line-fault.ensures (search rules)
+unfolding reply_says
+returns c = trace_refused _ _ c.before.before.without-cut.ensures _ _ _ _ _ _ _ c.before.line-fault.ensures (search rules)
 
 slice-relend-prefix-trace-line : tie.Need-slice-relend-prefix-trace-line
 slice-relend-prefix-trace-line c =
     let at-line-fault = c.before.before.before.before in
-    image-fits _ _ _ _ _ _ _ at-line-fault.line-fault.ensures c.before.before.before.if1.false c.before.before.slots-for.ensures
+    image_fits _ _ _ _ _ _ _ at-line-fault.line-fault.ensures c.before.before.before.if1.false c.before.before.slots-for.ensures
 
 slice-aggregate-trace-line : tie.Need-slice-aggregate-trace-line
 slice-aggregate-trace-line c =
     let at-else1 = c.before.before.before.before in
     let at-start = without-cut-to-start at-else1.before.before in
     front_length _ at-start.args.image.now
-    (image-fits _ _ _ _ _ _ _ at-else1.before.line-fault.ensures at-else1.if1.false c.before.before.before.slots-for.ensures)
+    (image_fits _ _ _ _ _ _ _ at-else1.before.line-fault.ensures at-else1.if1.false c.before.before.before.slots-for.ensures)
 
 slice-relend-prefix-trace-line-2 : tie.Need-slice-relend-prefix-trace-line-2
 slice-relend-prefix-trace-line-2 c =
     let at-else1 = c.before.before.before.before in
-    heads-fit _ _ _ _ _ _ _ at-else1.before.line-fault.ensures at-else1.if1.false c.before.before.before.slots-for.ensures
+    heads_fit _ _ _ _ _ _ _ at-else1.before.line-fault.ensures at-else1.if1.false c.before.before.before.slots-for.ensures
 
 slice-aggregate-trace-line-2 : tie.Need-slice-aggregate-trace-line-2
 slice-aggregate-trace-line-2 c =
     let at-slots-for = c.before.before.before.before in
     let at-start = without-cut-to-start at-slots-for.before.before.before in
     front_length _ at-start.args.heads.now
-    (heads-fit _ _ _ _ _ _ _ at-slots-for.before.before.line-fault.ensures at-slots-for.before.if1.false at-slots-for.slots-for.ensures)
+    (heads_fit _ _ _ _ _ _ _ at-slots-for.before.before.line-fault.ensures at-slots-for.before.if1.false at-slots-for.slots-for.ensures)
 
 slice-relend-prefix-trace-line-3 : tie.Need-slice-relend-prefix-trace-line-3
 slice-relend-prefix-trace-line-3 c =
@@ -81,9 +81,9 @@ returns-2 c =
     let at-trace-line = next-to-trace-line c.before.before.before.before.before in
     let at-lesser2 = at-trace-line.before.before.before.before.before.before in
     let at-line-fault = at-lesser2.before.before.before.before in
-    trace-done _ _ at-line-fault.before.without-cut.ensures _ _ _ _ _ _ _ at-line-fault.line-fault.ensures
+    trace_done _ _ at-line-fault.before.without-cut.ensures _ _ _ _ _ _ _ at-line-fault.line-fault.ensures
     at-lesser2.before.before.before.if1.left _ at-lesser2.before.before.slots-for.ensures _ _
-    (front-room _ _ _ at-lesser2.before.lesser.ensures) (front-room _ _ _ at-lesser2.lesser2.ensures) _ _ _ _ _ at-trace-line.trace-line.ensures
+    (front_room _ _ _ at-lesser2.before.lesser.ensures) (front_room _ _ _ at-lesser2.lesser2.ensures) _ _ _ _ _ at-trace-line.trace-line.ensures
 
 pub trace-step-spec : {M : Type 1} → statement M
 trace-step-spec =

@@ -1,0 +1,343 @@
+-- What the plan of an append and the filling of its stores compute. Assumes nothing.
+use mathlib.Core.Path.{◌≡◌, refl, sym, ap, ap₂, ◌∙◌, subst}
+use mathlib.Core.List.{List, [], ◌∷◌, ◌++◌}
+use Prim.Native.Nat.{ℕ, zero, suc, ◌+◌, ◌-◌, ◌*◌, ◌%◌, ◌^◌, ◌≤◌, ◌<◌}
+use native.Mathlib.Nat.{mod-lt}
+use native.Mathlib.Numerals.{add-one}
+use native.Mathlib.Omega.{arith}
+use lib.ListN.{length, length-append}
+use lib.Dec.{ltb}
+use borrow.Author.Tests.{ltb-false, leb-false}
+use Rattle.prelude.specs.Answer.{gives, refused}
+use Rattle.prelude.proofs.Refusals.{refuse_if_zero, or_else_first, or_else_later}
+use Rattle.words.specs.Word.{AreBytes, word}
+use Rattle.words.proofs.Laws.{word_range}
+use Rattle.layout.specs.Line.{line, version_fault}
+use Rattle.stores.specs.Written.{marked, run, line_stores}
+use Rattle.stores.proofs.Line.{run_length}
+use Rattle.message_log.specs.Area.{cells_in, area_fault, payload_line}
+use Rattle.message_log.specs.Bit.{differing_place, store_count, bit_pair, packed}
+use Rattle.message_log.specs.Message.{highest}
+use Rattle.message_log.specs.LogOutcome.{short_fault, log_end}
+use Rattle.message_log.specs.Append.{message_line, line_count, payload_stores, payloads_from, pairs_word, marked_body, marked_words, message_stores, message_fault}
+use Rattle.message_log.specs.Append.{append_after_stores, append_after_fault, append_after_result, append_stores, append_result}
+use Rattle.message_log.specs.inner.Needs.{CellCount, Filled, ListRoom, PayloadPlanned, AppendReady, AppendPlanned}
+use Rattle.message_log.proofs.Flexible.{count_within, pair_low, packed_low}
+use Rattle.stores.proofs.Lists.{StoresFill, stores_begin, stores_on, stores_end, stores_room}
+use Rattle.message_log.proofs.Fillings.{filled, filled_append, hand_refused, hand_done}
+use Rattle.message_log.proofs.Parts.{no_area, is_area, cells_by}
+use Rattle.message_log.proofs.Inside.{area_first}
+
+-- ---- the payload lines
+
+module _ (m : ℕ → ℕ) (c : ℕ) (message : List ℕ) where
+  from_step : (i : ℕ) → i < 6 → payloads_from m c message i (6 - i) ≡ payload_stores m c message i ++ payloads_from m c message (i + 1) (6 - (i + 1))
+  unfolding payloads_from
+  from_step i h =
+      ap (payloads_from m c message i) (let e : 6 - i ≡ suc (6 - (i + 1)) = omega arith in e)
+      ∙ ap (λ (x : ℕ). payload_stores m c message i ++ payloads_from m c message x (6 - (i + 1))) (sym (add-one i))
+
+  line_length : (i : ℕ) → length (payload_stores m c message i) ≡ line_count m c message i
+  unfolding payload_stores
+  line_length i = run_length (8 * (7 * c + 1 + i)) (message_line message i) 0 (line_count m c message i)
+
+  line_few : (i : ℕ) → line_count m c message i ≤ 8
+  line_few i = count_within (payload_line m c i) (message_line message i)
+
+  from_few : (k n : ℕ) → length (payloads_from m c message k n) ≤ 8 * n
+  unfolding payloads_from
+  from_few k zero = omega arith
+  from_few k (suc n) =
+      omega
+      (arith, length-append (payload_stores m c message k) (payloads_from m c message (suc k) n), line_length k, line_few k, from_few (suc k) n)
+
+  abbrev pair_at : ℕ → ℕ
+  pair_at j = bit_pair (payload_line m c j) (message_line message j)
+
+  -- ---- their plan, from line 5 down: the lines from i on are done
+
+  pub record Planning (pairs count i : ℕ) : Type 0 where
+    pub left : i ≤ 6
+    pub packs : pairs ≡ packed (λ j. bit_pair (payload_line m c j) (message_line message j)) i (6 - i)
+    pub size : count ≡ length (payloads_from m c message i (6 - i))
+    pub few : count + 8 * i ≤ 48
+
+  pub plan_start : Planning 0 0 6
+  unfolding packed payloads_from
+  plan_start = record { left = omega arith; packs = refl; size = refl; few = omega arith }
+
+  pub plan_next : (pairs count i k n r words : ℕ) → Planning pairs count i → 0 < i → k ≡ i - 1 → n ≡ 7 * c + 1 + k
+      → words ≡ store_count (differing_place 8 (line m n) (message_line message k)) → r ≡ bit_pair (line m n) (message_line message k)
+      → Planning (r + 1024 * pairs) (count + words) k
+  unfolding packed payloads_from
+  plan_next pairs count i k n r words g p q o e f =
+      record {
+        left = omega (arith, g.left);
+        packs =
+            ap₂ (λ (x y : ℕ). x + 1024 * y) (f ∙ ap (λ (x : ℕ). bit_pair (line m x) (message_line message k)) o)
+            (g.packs ∙ ap₂ (packed pair_at) up fewer)
+            ∙ ap (packed pair_at k) (sym more);
+        size =
+            sym
+            (ap (λ (x : ℕ). length (payloads_from m c message k x)) more
+            ∙ length-append (payload_stores m c message k) (payloads_from m c message (suc k) (6 - suc k))
+            ∙ ap₂ (λ (x y : ℕ). x + y) (line_length k ∙ sym here) (sym (g.size ∙ ap₂ (λ (x y : ℕ). length (payloads_from m c message x y)) up fewer))
+            ∙ (let z : words + count ≡ count + words = omega arith in z));
+        few = omega (arith, g.few, here, line_few k);
+      }
+    where
+      here : words ≡ line_count m c message k
+      here = e ∙ ap (λ (x : ℕ). store_count (differing_place 8 (line m x) (message_line message k))) o
+
+      up : i ≡ suc k
+      up = omega arith
+
+      fewer : 6 - i ≡ 6 - suc k
+      fewer = ap (λ (x : ℕ). 6 - x) up
+
+      more : 6 - k ≡ suc (6 - suc k)
+      more = omega (arith, g.left)
+
+  -- the pairs fit into a word
+  pub plan_room : (pairs count i r : ℕ) → ((j : ℕ) → m j < 2 ^ 64) → AreBytes message → Planning pairs count i → 0 < i → (n k : ℕ)
+      → r ≡ bit_pair (line m n) (message_line message k) → r + 1024 * pairs < 2 ^ 64
+  plan_room pairs count i r fits b g h n k e =
+      omega (
+        arith,
+        e,
+        pair_low (line m n) (message_line message k) (λ j l. fits (8 * n + j % 8)) (λ j l. word_range message (8 * k + j) b),
+        g.packs,
+        low (6 - i) (omega (arith, g.left))
+            (packed_low pair_at
+            (λ x. pair_low (payload_line m c x) (message_line message x) (λ j l. fits (8 * (7 * c + 1 + x) + j % 8)) (λ j l. word_range message (8 * x + j) b)) i
+            (6 - i)),
+      )
+    where
+      low : {x : ℕ} (n : ℕ) → n ≤ 5 → x < 1024 ^ n → x < 2 ^ 50
+      low zero p q = omega arith
+      low (suc zero) p q = omega arith
+      low (suc (suc zero)) p q = omega arith
+      low (suc (suc (suc zero))) p q = omega arith
+      low (suc (suc (suc (suc zero)))) p q = omega arith
+      low (suc (suc (suc (suc (suc zero))))) p q = omega arith
+      low (suc (suc (suc (suc (suc (suc n)))))) p q = absurd (omega arith)
+
+  pub count_room : (pairs count i n k words : ℕ) → Planning pairs count i → 0 < i
+      → words ≡ store_count (differing_place 8 (line m n) (message_line message k)) → count + words ≤ 48
+  count_room pairs count i n k words g h e = omega (arith, g.few, e, count_within (line m n) (message_line message k))
+
+pub plan_end : (area : List ℕ) (c : ℕ) (message : List ℕ) (pairs count i : ℕ) → Planning (word area) c message pairs count i → i ≤ 0
+    → PayloadPlanned area c message pairs count
+unfolding pairs_word
+plan_end area c message pairs count i g h =
+    record {
+      pairs_are = g.packs ∙ ap₂ (packed (λ j. bit_pair (payload_line (word area) c j) (message_line message j))) none all;
+      size = g.size ∙ ap₂ (λ (x y : ℕ). length (payloads_from (word area) c message x y)) none all;
+      few = omega (arith, g.few);
+    }
+  where
+    none : i ≡ 0
+    none = omega arith
+
+    all : 6 - i ≡ 6
+    all = omega arith
+
+-- ---- their filling: the lines before i are in the lists
+
+module _ (m : ℕ → ℕ) (c : ℕ) (message at₀ value₀ : List ℕ) where
+  pub record Paying (at value : List ℕ) (k i : ℕ) : Type 0 where
+    pub done : i ≤ 6
+    pub left : StoresFill at₀ value₀ 8 (payloads_from m c message 0 6) at value k (payloads_from m c message i (6 - i))
+
+  pub pay_start : Paying at₀ value₀ 8 0
+  pay_start = record { done = omega arith; left = stores_begin refl refl }
+
+  module _ (at value : List ℕ) (k i n count : ℕ) (g : Paying at value k i) (h : i < 6) (o : n ≡ 7 * c + 1 + i)
+      (e : count ≡ store_count (differing_place 8 (line m n) (message_line message i))) where
+    count_is : count ≡ line_count m c message i
+    count_is = e ∙ ap (λ (x : ℕ). store_count (differing_place 8 (line m x) (message_line message i))) o
+
+    pub pay_next : (at' value' : List ℕ) → Filled at value at' value' k (run (8 * n) (message_line message i) 0 count) → Paying at' value' (k + count) (i + 1)
+    unfolding payload_stores
+    pay_next at' value' f =
+        let here = subst (Filled at value at' value' k) (ap₂ (λ (x y : ℕ). run (8 * x) (message_line message i) 0 y) o count_is) f in
+        record {
+          done = omega arith;
+          left =
+              stores_on g.left (payload_stores m c message i) (from_step m c message i h) here.ats here.vals
+              (ap (λ (x : ℕ). k + x) (count_is ∙ sym (line_length m c message i)));
+        }
+
+    pub pay_few : count ≤ 8
+    pay_few = omega (arith, count_is, line_few m c message i)
+
+    -- there is room for the line
+    pub pay_room : ListRoom (length at₀) (length value₀) 8 (length (payloads_from m c message 0 6)) → ListRoom (length at) (length value) k count
+    pay_room r =
+        record {
+          at_room = omega (arith, r.at_room, stores_room g.left, g.left.ats.size, rest, count_is, line_length m c message i);
+          value_room = omega (arith, r.value_room, stores_room g.left, g.left.vals.size, rest, count_is, line_length m c message i);
+        }
+      where
+        rest : length (payloads_from m c message i (6 - i)) ≡ length (payload_stores m c message i) + length (payloads_from m c message (i + 1) (6 - (i + 1)))
+        rest = ap length (from_step m c message i h) ∙ length-append (payload_stores m c message i) (payloads_from m c message (i + 1) (6 - (i + 1)))
+
+  pub pay_end : (at value : List ℕ) (k i : ℕ) → Paying at value k i → 6 ≤ i → Filled at₀ value₀ at value 8 (payloads_from m c message 0 6)
+  unfolding payloads_from
+  pay_end at value k i g h =
+      filled (stores_end g.left (ap (payloads_from m c message i) (let z : 6 - i ≡ 0 = omega arith in z)))
+
+-- the marked line and then they
+pub message_filled : (m : ℕ → ℕ) (c s : ℕ) (message at value at' value' at'' value'' : List ℕ) (stamp pairs : ℕ) → stamp ≡ m (8 * (7 * c) + 7)
+    → pairs ≡ pairs_word m c message → Filled at value at' value' 0 (run (8 * (7 * c)) (marked stamp s (marked_body (length message) pairs)) 0 8)
+    → Filled at' value' at'' value'' 8 (payloads_from m c message 0 6) → Filled at value at'' value'' 0 (message_stores m c s message)
+unfolding message_stores line_stores
+message_filled m c s message at value at' value' at'' value'' stamp pairs e q f g =
+    filled_append at value at' value' at'' value'' 0 8 _ _
+    (subst (Filled at value at' value' 0) (ap₂ (λ (x y : ℕ). run (8 * (7 * c)) (marked x s (marked_body (length message) y)) 0 8) e q) f)
+    (sym (ap (λ (n : ℕ). 0 + n) (run_length (8 * (7 * c)) (marked_words m c s message) 0 8))) g
+
+message-length : (m : ℕ → ℕ) (c s : ℕ) (message : List ℕ) → length (message_stores m c s message) ≡ 8 + length (payloads_from m c message 0 6)
+unfolding message_stores line_stores
+message-length m c s message =
+    length-append (run (8 * (7 * c)) (marked_words m c s message) 0 8) (payloads_from m c message 0 6)
+    ∙ ap (λ (n : ℕ). n + length (payloads_from m c message 0 6)) (run_length (8 * (7 * c)) (marked_words m c s message) 0 8)
+
+-- an append has at most 56 stores
+pub append_few : (cells : ℕ) (m : ℕ → ℕ) (message : List ℕ) → length (append_stores cells m message) ≤ 56
+unfolding append_stores append_after_stores
+append_few cells m message =
+    omega (
+      arith,
+      message-length m (suc (highest cells m) % cells) (suc (highest cells m)) message,
+      from_few m (suc (highest cells m) % cells) message 0 6,
+    )
+
+-- ---- the refusals
+
+-- a number that is not refused
+pub number_low : (last over : ℕ) → over ≡ version_fault (suc last) → over ≡ 0 → suc last < 2 ^ 63
+unfolding version_fault
+number_low last over v fits = leb-false (2 ^ 63) (suc last) (refuse_if_zero _ _ _ (sym v ∙ fits) (omega arith)).0
+
+module _ (area : List ℕ) (last : ℕ) (message : List ℕ) (ats vals k : ℕ) (e : k ≡ cells_in area) where
+  refuses_with : (fault number cell pairs count n : ℕ) → (n ≡ 0 → ⊥) → fault ≡ n → n ≡ append_after_fault area last message ats vals
+      → AppendPlanned area last message ats vals fault number cell pairs count
+  refuses_with fault number cell pairs count n ne p q = record { refusal = p ∙ q; ready = λ z. absurd (ne (sym p ∙ z)) }
+
+  pub plan_no_area : (fault number cell pairs count : ℕ) → k ≡ 0 → fault ≡ 30 → AppendPlanned area last message ats vals fault number cell pairs count
+  plan_no_area fault number cell pairs count z p =
+      refuses_with fault number cell pairs count 30 (λ x. omega arith) p (sym (area_first area last message ats vals (no_area area k e z)))
+
+  module _ (some : k ≡ 0 → ⊥) where
+    all : CellCount (length area) k
+    all = cells_by area k e some
+
+    area_fine : area_fault area ≡ 0
+    area_fine = is_area area k e some
+
+    module _ (unfit : ℕ) (u : unfit ≡ message_fault (length message)) where
+      pub plan_no_message : (fault number cell pairs count : ℕ) → (unfit ≡ 0 → ⊥) → fault ≡ unfit
+          → AppendPlanned area last message ats vals fault number cell pairs count
+      unfolding append_after_fault
+      plan_no_message fault number cell pairs count ne p =
+          refuses_with fault number cell pairs count unfit ne p
+          (u ∙ sym (or_else_later (area_fault area) _ area_fine ∙ or_else_first (message_fault (length message)) _ (λ z. ne (u ∙ z))))
+
+      module _ (fit : unfit ≡ 0) (over : ℕ) (v : over ≡ version_fault (suc last)) where
+        pub plan_no_number : (fault number cell pairs count : ℕ) → (over ≡ 0 → ⊥) → fault ≡ over
+            → AppendPlanned area last message ats vals fault number cell pairs count
+        unfolding append_after_fault
+        plan_no_number fault number cell pairs count ne p =
+            refuses_with fault number cell pairs count over ne p
+            (v
+            ∙ sym
+            (or_else_later (area_fault area) _ area_fine ∙ or_else_later (message_fault (length message)) _ (sym u ∙ fit)
+            ∙ or_else_first (version_fault (suc last)) _ (λ z. ne (v ∙ z))))
+
+        module _ (fits : over ≡ 0) (cell : ℕ) (p : cell ≡ (last + 1) % k) where
+          cell_under : cell < k
+          cell_under = omega (arith, p, mod-lt (last + 1) (let z : 0 < k = omega (arith, all.some) in z))
+
+          pub cell_room : 448 * (cell + 1) ≤ length area
+          cell_room = omega (arith, all.size, cell_under)
+
+          cell_is : cell ≡ suc last % cells_in area
+          cell_is = p ∙ ap₂ (λ (x y : ℕ). x % y) (add-one last) e
+
+          module _ (pairs stores : ℕ) (g : PayloadPlanned area cell message pairs stores) where
+            size_is : 8 + stores ≡ length (append_after_stores (cells_in area) (word area) last message)
+            unfolding append_after_stores
+            size_is =
+                ap (λ (n : ℕ). 8 + n) g.size ∙ sym (message-length (word area) cell (suc last) message)
+                ∙ ap (λ (x : ℕ). length (message_stores (word area) x (suc last) message)) cell_is
+
+            pub plan_done : (fault : ℕ) → fault ≡ short_fault (8 + stores) ats vals
+                → AppendPlanned area last message ats vals fault (last + 1) cell pairs (8 + stores)
+            unfolding append_after_fault short_fault
+            plan_done fault r =
+                record {
+                  refusal =
+                      r ∙ ap (λ (n : ℕ). short_fault n ats vals) size_is
+                      ∙ sym
+                      (or_else_later (area_fault area) _ area_fine ∙ or_else_later (message_fault (length message)) _ (sym u ∙ fit)
+                      ∙ or_else_later (version_fault (suc last)) _ (sym v ∙ fits));
+                  ready = λ z.
+                      let one = refuse_if_zero (ltb ats (8 + stores)) _ _ (sym r ∙ z) (omega arith) in
+                      let two = refuse_if_zero (ltb vals (8 + stores)) _ _ one.1 (omega arith) in
+                      record {
+                        next = add-one last;
+                        there = cell_is;
+                        size = size_is;
+                        room = record {
+                          payload = record {
+                            room = record {
+                              at_room = omega (arith, g.size, ltb-false ats (8 + stores) one.0);
+                              value_room = omega (arith, g.size, ltb-false vals (8 + stores) two.0);
+                            };
+                            cell = omega (arith, cell_under, all.few);
+                            inside = cell_room;
+                          };
+                          number_fits = omega (arith, number_low last over v fits);
+                          pairs_are = g.pairs_are;
+                        };
+                      };
+                }
+
+-- ---- the call
+
+module _ (area : List ℕ) (last : ℕ) (message at value : List ℕ) (fault number cell pairs count : ℕ)
+    (g : AppendPlanned area last message (length at) (length value) fault number cell pairs count) where
+  pub append_refused : (fault ≡ 0 → ⊥) → log_end (refused fault) at value ≡ append_after_result area last message at value
+  unfolding append_after_result
+  append_refused ne = hand_refused _ _ _ at value fault g.refusal ne
+
+  module _ (z : fault ≡ 0) where
+    ready : AppendReady area last message (length at) (length value) number cell pairs count
+    ready = g.ready z
+
+    stores_are : message_stores (word area) cell number message ≡ append_after_stores (cells_in area) (word area) last message
+    unfolding append_after_stores
+    stores_are = ap₂ (λ (x y : ℕ). message_stores (word area) x y message) ready.there ready.next
+
+    long : length (append_after_stores (cells_in area) (word area) last message) ≡ 8 + length (payloads_from (word area) cell message 0 6)
+    long = sym (ap length stores_are) ∙ message-length (word area) cell number message
+
+    pub append_taken : (at' value' : List ℕ) → Filled at value at' value' 0 (message_stores (word area) cell number message)
+        → log_end (gives (number ∷ count ∷ [])) at' value' ≡ append_after_result area last message at value
+    unfolding append_after_result
+    append_taken at' value' f =
+        hand_done _ _ (append_after_stores (cells_in area) (word area) last message) at value at' value' number count (sym g.refusal ∙ z) ready.next
+        ready.size (subst (Filled at value at' value' 0) stores_are f)
+        (omega (arith, ready.room.payload.room.at_room, long)) (omega (arith, ready.room.payload.room.value_room, long))
+
+-- APPEND: 30 where the area is not K cells, and else append_after with the highest complete number
+module _ (area message at value : List ℕ) (k : ℕ) (e : k ≡ cells_in area) where
+  pub append_no_area : k ≡ 0 → log_end (refused 30) at value ≡ append_result area message at value
+  unfolding append_result append_after_result
+  append_no_area z =
+      hand_refused _ _ _ at value 30 (sym (area_first area (highest (cells_in area) (word area)) message _ _ (no_area area k e z))) (λ x. omega arith)
+
+  pub append_by : (top : ℕ) → top ≡ highest k (word area) → append_after_result area top message at value ≡ append_result area message at value
+  unfolding append_result
+  append_by top f = ap (λ (n : ℕ). append_after_result area n message at value) (f ∙ ap (λ (j : ℕ). highest j (word area)) e)
