@@ -5,7 +5,7 @@ use orderset::{Action, BasketItem, Mode, State};
 use show::fronts::numbers_of;
 
 // How many bytes, heads, next numbers and entries of the two lists a call is lent, the first ones of each.
-#[derive(Drop)]
+#[derive(Clone, Copy)]
 pub struct Fronts {
     pub image: usize,
     pub heads: usize,
@@ -15,7 +15,7 @@ pub struct Fronts {
 }
 
 // The items of a basket, with their values from byte 80 * i on; of more than eight only the count is kept.
-#[derive(Drop)]
+#[derive(Clone, Copy)]
 pub struct Named {
     pub count: usize,
     pub items: [BasketItem; 8],
@@ -24,7 +24,7 @@ pub struct Named {
 
 // `count` first entries of the lists were handed out last: invalidating stores, each on a line of its own, or eight to
 // a line.
-#[derive(Drop)]
+#[derive(Clone, Copy)]
 pub struct Set {
     pub image: [u8; 2176],
     pub heads: [u32; 3],

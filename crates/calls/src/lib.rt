@@ -2,7 +2,7 @@
 use index::{Action, State};
 
 // The answer of insert, replace and remove: the slot taken and the version, absent, or a refusal.
-#[derive(Drop)]
+#[derive(Clone, Copy)]
 pub enum Outcome {
     Stored { slot: u32, version: u64 },
     Absent,
@@ -11,7 +11,7 @@ pub enum Outcome {
 
 // What insert, replace and remove give back: the answer, the new state, the count of slots compared and the count of
 // words moved. The stores to be played are lent.
-#[derive(Drop)]
+#[derive(Clone, Copy)]
 pub struct Change {
     pub outcome: Outcome,
     pub state: State,
@@ -20,7 +20,7 @@ pub struct Change {
 }
 
 // Get's answer: the length of the value, absent, or a refusal.
-#[derive(Drop)]
+#[derive(Clone, Copy)]
 pub enum Got {
     Length(usize),
     Absent,
@@ -28,7 +28,7 @@ pub enum Got {
 }
 
 // What get gives back: the answer, the count of slots compared and the count of words moved.
-#[derive(Drop)]
+#[derive(Clone, Copy)]
 pub struct GetAnswer {
     pub got: Got,
     pub compared: u32,
@@ -36,7 +36,7 @@ pub struct GetAnswer {
 }
 
 // Locate's answer: the slot that holds the key and the version on its line A, absent, or a refusal.
-#[derive(Drop)]
+#[derive(Clone, Copy)]
 pub enum Located {
     At { slot: u32, version: u64 },
     Absent,
@@ -44,14 +44,14 @@ pub enum Located {
 }
 
 // What locate gives back: the answer and the count of slots compared.
-#[derive(Drop)]
+#[derive(Clone, Copy)]
 pub struct LocateAnswer {
     pub located: Located,
     pub compared: u32,
 }
 
 // Format's answer: the number of slots, or a refusal.
-#[derive(Drop)]
+#[derive(Clone, Copy)]
 pub enum Formatted {
     Slots(u32),
     Refused(u32),
@@ -59,7 +59,7 @@ pub enum Formatted {
 
 // One of a basket's keys: what is asked for it, its low and its high word (not read in layout 1), and the length of its
 // value, which does not matter of a remove.
-#[derive(Drop)]
+#[derive(Clone, Copy)]
 pub struct BasketItem {
     pub action: Action,
     pub low: u64,
@@ -68,7 +68,7 @@ pub struct BasketItem {
 }
 
 // A basket's answer: the version, or a refusal.
-#[derive(Drop)]
+#[derive(Clone, Copy)]
 pub enum BasketOutcome {
     Stored { version: u64 },
     Refused(u32),
@@ -76,7 +76,7 @@ pub enum BasketOutcome {
 
 // What a basket gives back: the answer, the slots taken, key by key and then zeros, and the new state. The stores to be
 // played are lent.
-#[derive(Drop)]
+#[derive(Clone, Copy)]
 pub struct BasketAnswer {
     pub outcome: BasketOutcome,
     pub slots: [u32; 8],
@@ -84,14 +84,14 @@ pub struct BasketAnswer {
 }
 
 // The slots of the old records of a basket's keys, 0 for none; or the refusal by their chains.
-#[derive(Drop)]
+#[derive(Clone, Copy)]
 pub struct Olds {
     pub fault: u32,
     pub slots: [u32; 8],
 }
 
 // How many keys a basket inserts and how many it removes.
-#[derive(Drop)]
+#[derive(Clone, Copy)]
 pub struct Totals {
     pub inserts: u32,
     pub removes: u32,
@@ -99,7 +99,7 @@ pub struct Totals {
 
 // What a basket reads before it writes: its refusal, 0 for none; else the slots of the old records of its keys, the
 // slots that it takes and the slots before them.
-#[derive(Drop)]
+#[derive(Clone, Copy)]
 pub struct Plan {
     pub fault: u32,
     pub olds: [u32; 8],
@@ -109,7 +109,7 @@ pub struct Plan {
 
 // What a basket gives back, with its stores: the first `stored` numbers of `at` are their word numbers, and those of
 // `words` their values.
-#[derive(Drop)]
+#[derive(Clone, Copy)]
 pub struct BasketMade {
     pub answer: BasketAnswer,
     pub stored: usize,

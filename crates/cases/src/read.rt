@@ -4,7 +4,7 @@ use orderset::{Got, Located, Outcome, get, locate};
 use words_code::read_word;
 
 // What locate and get answered, and the 80 bytes of which get was lent the front.
-#[derive(Drop)]
+#[derive(Clone, Copy)]
 pub struct Fetched {
     pub located: Located,
     pub got: Got,

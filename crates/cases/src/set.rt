@@ -9,7 +9,7 @@ use show::lines::low_half;
 use words_code::lesser;
 
 // How many bytes, heads and next numbers a call is lent, the first ones of each.
-#[derive(Drop)]
+#[derive(Clone, Copy)]
 pub struct Fronts {
     pub image: usize,
     pub heads: usize,
@@ -18,7 +18,7 @@ pub struct Fronts {
 
 // The quantities that steps moved; `step` is the name of the call that handed the stores out, or 0, and `quantity` what
 // that moves if it is a step.
-#[derive(Drop)]
+#[derive(Clone, Copy)]
 pub struct Book {
     pub ordered: u64,
     pub filled: u64,
@@ -27,7 +27,7 @@ pub struct Book {
     pub quantity: u64,
 }
 
-#[derive(Drop)]
+#[derive(Clone, Copy)]
 pub struct Set {
     pub image: [u8; 640],
     pub heads: [u32; 2],

@@ -8,7 +8,7 @@ use session::Progress;
 use session_stream_code::stream::{end_input, open_stream, take_byte};
 
 // Where the session stands, whether the input may have more, and whether every write so far succeeded.
-#[derive(Drop)]
+#[derive(Clone, Copy)]
 pub struct Status {
     pub progress: Progress,
     pub reading: bool,

@@ -2,7 +2,7 @@
 
 // What a slot's marks and stamps say of it: valid with its version, empty, or broken with the highest version on a
 // whole line.
-#[derive(Drop)]
+#[derive(Clone, Copy)]
 pub enum Verdict {
     Valid(u64),
     Empty,

@@ -33,7 +33,7 @@ fn show_log_form(handed: LogOutcome) -> usize {
 }
 
 // The two number lists after a call, and the count of its stores.
-#[derive(Drop)]
+#[derive(Clone, Copy)]
 struct Counted {
     numbers: Numbers,
     count: usize,

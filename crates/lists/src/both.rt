@@ -3,7 +3,7 @@
 use orderset::{Action, BasketItem, Mode, State, Store};
 
 // The bytes, with an index and its state where they are an image.
-#[derive(Drop)]
+#[derive(Clone, Copy)]
 pub struct Side {
     pub bytes: [u8; 2176],
     pub heads: [u32; 2],
@@ -12,14 +12,14 @@ pub struct Side {
 }
 
 // Word numbers and values of stores.
-#[derive(Drop)]
+#[derive(Clone, Copy)]
 pub struct Numbers {
     pub at: [u32; 48],
     pub value: [u64; 48],
 }
 
 // The items of a basket; every byte of their values is `byte`. Of more than eight only the count is kept.
-#[derive(Drop)]
+#[derive(Clone, Copy)]
 pub struct Named {
     pub count: usize,
     pub items: [BasketItem; 8],
@@ -28,7 +28,7 @@ pub struct Named {
 
 // Of each side so many first bytes are lent. `count` first entries of the two number lists, and of the list of stores,
 // were handed out last.
-#[derive(Drop)]
+#[derive(Clone, Copy)]
 pub struct Both {
     pub size: usize,
     pub layout: u64,

@@ -143,7 +143,7 @@ fn basket_lent_in(
 }
 
 // The side and the lists after a basket by number slices, and the count of its stores.
-#[derive(Drop)]
+#[derive(Clone, Copy)]
 struct ByNumbers {
     side: Side,
     numbers: Numbers,
@@ -192,7 +192,7 @@ fn by_numbers(side: Side, size: usize, layout: u64, named: Named, numbers: Numbe
 }
 
 // The side and the list after a basket by a list of stores.
-#[derive(Drop)]
+#[derive(Clone, Copy)]
 struct ByList {
     side: Side,
     stores: [Store; 48],

@@ -18,7 +18,7 @@ use stores::Store;
 use stores_list_code::play::play_stores;
 
 // The answer of a call of the log, and the list after it.
-#[derive(Drop)]
+#[derive(Clone, Copy)]
 pub struct LogListed {
     pub answer: LogOutcome,
     pub list: [Store; 48],
@@ -47,7 +47,7 @@ pub fn recover_lent(area: &[u8], list: [Store; 48]) -> LogListed
 }
 
 // The answer of a basket, and the list after it.
-#[derive(Drop)]
+#[derive(Clone, Copy)]
 pub struct BasketListed {
     pub answer: BasketAnswer,
     pub list: [Store; 48],

@@ -1,21 +1,21 @@
 // The raw message log: types, definitions and laws. Document 02, A.10.
 
 // What append and recovery answer: a number and the count of the stores, or the number of the refusal.
-#[derive(Drop)]
+#[derive(Clone, Copy)]
 pub enum LogOutcome {
     Stored { number: u64, count: usize },
     Refused(u32),
 }
 
 // Where a message stands in the area: at which byte it starts and how many bytes it has; or the number of the refusal.
-#[derive(Drop)]
+#[derive(Clone, Copy)]
 pub enum Part {
     At { start: usize, size: usize },
     Refused(u32),
 }
 
 // Word 2 of the marked line of a message, and how many stores its payload lines have.
-#[derive(Drop)]
+#[derive(Clone, Copy)]
 pub struct Payload {
     pub pairs: u64,
     pub count: usize,
@@ -23,7 +23,7 @@ pub struct Payload {
 
 // What an append reads before it writes: its refusal, 0 for none; and where there is none its number, its cell, word 2
 // of its marked line, and the count of its stores.
-#[derive(Drop)]
+#[derive(Clone, Copy)]
 pub struct AppendPlan {
     pub fault: u32,
     pub number: u64,
@@ -34,7 +34,7 @@ pub struct AppendPlan {
 
 // What an append gives back, with its stores: the first `stored` numbers of `at` are their word numbers, and those of
 // `value` their values.
-#[derive(Drop)]
+#[derive(Clone, Copy)]
 pub struct AppendMade {
     pub answer: LogOutcome,
     pub stored: usize,
@@ -43,7 +43,7 @@ pub struct AppendMade {
 }
 
 // The same of a recovery, which has a store for each cell at most.
-#[derive(Drop)]
+#[derive(Clone, Copy)]
 pub struct RecoveryMade {
     pub answer: LogOutcome,
     pub stored: usize,

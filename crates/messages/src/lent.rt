@@ -3,14 +3,14 @@
 use crate::names::{FILL, LEND};
 
 // How many bytes, word numbers and values a call is lent, the first ones of each.
-#[derive(Drop)]
+#[derive(Clone, Copy)]
 pub struct Fronts {
     pub area: usize,
     pub at: usize,
     pub value: usize,
 }
 
-#[derive(Drop)]
+#[derive(Clone, Copy)]
 pub struct Log {
     pub area: [u8; 1344],
     pub at: [u32; 60],

@@ -13,14 +13,14 @@ use std::num::wrapping_add_u64;
 use trace_code::stream::{trace_byte, trace_end};
 
 // How many lines were read and how many calls tried, and the second of the last line on standard error.
-#[derive(Drop)]
+#[derive(Clone, Copy)]
 struct Tried {
     lines: u64,
     calls: u64,
     second: i64,
 }
 
-#[derive(Drop)]
+#[derive(Clone, Copy)]
 struct Run {
     status: Status,
     tried: Tried,

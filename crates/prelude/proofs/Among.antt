@@ -23,6 +23,7 @@ one_of k (x ∷ xs) e = go (eqb k x) refl e (one_of k xs)
 
 -- what is in a list is in one that has all its numbers
 pub among : (xs ys : List ℕ) → are_among xs ys ≡ true → (k : ℕ) → In k xs → In k ys
+among [] ys e k x'' = elim x'' [ ]
 among (x ∷ xs) ys e k (inl p) = subst (λ (y : ℕ). In y ys) (sym p) (one_of x ys (both_of (is_one x ys) (are_among xs ys) e).0)
 among (x ∷ xs) ys e k (inr i) = among xs ys (both_of (is_one x ys) (are_among xs ys) e).1 k i
 

@@ -164,6 +164,7 @@ any_place p k (suc n) e = go (split (p k)) (any_place p (suc k) n)
 -- over the elements of a list
 pub in_any : (p : ℕ → Bool) (x : ℕ) (xs : List ℕ) → In x xs → p x ≡ true → any_in p xs ≡ true
 unfolding any_in
+in_any p x [] x3 q = elim x3 [ ]
 in_any p x (y ∷ xs) (inl e) q = pick_true (p y) _ _ (ap p (sym e) ∙ q)
 in_any p x (y ∷ xs) (inr i) q = go (p y) (in_any p x xs i q)
   where

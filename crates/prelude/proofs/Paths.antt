@@ -1,5 +1,5 @@
 -- Singly linked lists: frame, uniqueness, and the three changes of one link. Assumes nothing.
-use mathlib.Core.Path.{◌≡◌, refl, sym, ap, ◌∙◌}
+use mathlib.Core.Path.{◌≡◌, refl, sym, ap, ◌∙◌, subst}
 use mathlib.Core.Logic.{◌⊎◌, inl, inr}
 use mathlib.Core.List.{List, [], ◌∷◌, ◌++◌}
 use Prim.Native.Nat.{ℕ, ◌<◌}
@@ -59,6 +59,7 @@ run_unique f (x ∷ xs) (y ∷ ys) a b e p q r s =
 -- what comes after an element is a shorter list
 suffix : (f : ℕ → ℕ) (x : ℕ) (xs : List ℕ) (a v : ℕ) → In x xs → Run f a xs v
     → (zs : List ℕ) × (length zs < length xs) × Run f (f x) zs v × ((y : ℕ) → In y zs → In y xs)
+suffix f x [] a v x3 r = elim x3 [ ]
 suffix f x (y ∷ ys) a v (inl e) r = (ys, omega arith, rw e r.1, λ z m. inr m)
 suffix f x (y ∷ ys) a v (inr m) r =
     let t = suffix f x ys (f y) v m r.1 in
@@ -85,7 +86,7 @@ pub redirect : (f g : ℕ → ℕ) (x : ℕ) (xs ys : List ℕ) (w : ℕ) → Po
     → ((y : ℕ) → (y ≡ end_of x xs → ⊥) → g y ≡ f y) → g (end_of x xs) ≡ w → Run g (g x) xs w
 redirect f g x [] ys w p r k e = e
 redirect f g x (y ∷ xs) ys w p r k e = (
-  k x (λ d. self f x (y ∷ xs ++ ys) p r (in_left x (y ∷ xs) ys (rw d (end_in y xs)))) ∙ r.0,
+  k x (λ d. self f x (y ∷ xs ++ ys) p r (in_left x (y ∷ xs) ys (subst (λ (w : ℕ). In w (y ∷ xs)) (sym d) (end_in y xs)))) ∙ r.0,
   redirect f g y xs ys w (λ z m. p z (inr m)) r.1 k e,
 )
 

@@ -3,7 +3,7 @@
 use index::State;
 
 // Recovery's answer: the state beside the rebuilt index, or a refusal with the slot that it names, 0 for none.
-#[derive(Drop)]
+#[derive(Clone, Copy)]
 pub enum Recovered {
     Rebuilt(State),
     Refused { number: u32, slot: u32 },
@@ -11,7 +11,7 @@ pub enum Recovered {
 
 // The invalidating stores: `count` of them, store i sets word at[i] of the image to value[i]. Entries from `count` on
 // are zero.
-#[derive(Drop)]
+#[derive(Clone, Copy)]
 pub struct Invalidations {
     pub count: u32,
     pub at: [u32; 8],
@@ -19,7 +19,7 @@ pub struct Invalidations {
 }
 
 // What recover gives back: the answer and the invalidating stores, none with a refusal.
-#[derive(Drop)]
+#[derive(Clone, Copy)]
 pub struct RecoverAnswer {
     pub recovered: Recovered,
     pub invalidations: Invalidations,
@@ -28,7 +28,7 @@ pub struct RecoverAnswer {
 // What is kept of one slot: its rank in recovery's order, the low and the high word of its key, its chain as a number
 // (0 is the reuse chain), the highest version on a whole line, whether it has a bad mark (5), and the fault of its
 // record (6, 22, 23 or 24, else 0).
-#[derive(Drop)]
+#[derive(Clone, Copy)]
 pub struct Summary {
     pub rank: u64,
     pub low: u64,
@@ -40,7 +40,7 @@ pub struct Summary {
 }
 
 // How many slots are of each class: broken, empty, and of the valid ones puts and removes.
-#[derive(Drop)]
+#[derive(Clone, Copy)]
 pub struct Classes {
     pub broken: u32,
     pub empty: u32,
@@ -50,7 +50,7 @@ pub struct Classes {
 
 // What all slots together say: a bad mark, the fault of the lowest slot at fault and that slot (0 and 0 for none), how
 // many are of each class, and the highest version on a whole line.
-#[derive(Drop)]
+#[derive(Clone, Copy)]
 pub struct Scan {
     pub mark: bool,
     pub fault: u32,
@@ -62,7 +62,7 @@ pub struct Scan {
 // What recovery finds before it writes anything: the refusal of the slots or 0, the slot that it names, the live count,
 // the highest version on a whole line, how many slots are of each class, void records as the others, and the
 // invalidating stores.
-#[derive(Drop)]
+#[derive(Clone, Copy)]
 pub struct Judged {
     pub fault: u32,
     pub slot: u32,
@@ -73,7 +73,7 @@ pub struct Judged {
 }
 
 // Recovery's answer, and how many slots of an accepted image are of each class, void records as the others.
-#[derive(Drop)]
+#[derive(Clone, Copy)]
 pub struct RecoveryReport {
     pub answer: RecoverAnswer,
     pub classes: Classes,

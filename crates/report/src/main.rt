@@ -11,7 +11,7 @@ use show::progress::{counted, seconds};
 
 // How far the report is; the bytes at the front of the input that are not read yet; whether there may be more, and
 // whether every write succeeded; and the second of the last line on standard error.
-#[derive(Drop)]
+#[derive(Clone, Copy)]
 struct Status {
     progress: ReportProgress,
     have: usize,

@@ -1,7 +1,7 @@
 // The report on images that come one after another: types, definitions and laws.
 
 // The totals of the accepted images.
-#[derive(Drop)]
+#[derive(Clone, Copy)]
 pub struct SlotTotals {
     pub live: u64,
     pub hidden: u64,
@@ -12,21 +12,21 @@ pub struct SlotTotals {
 }
 
 // How many images may still be read, and the totals so far.
-#[derive(Drop)]
+#[derive(Clone, Copy)]
 pub struct ReportProgress {
     pub left: u32,
     pub totals: SlotTotals,
 }
 
 // After an image: the progress, and the position after its line in the output.
-#[derive(Drop)]
+#[derive(Clone, Copy)]
 pub struct ImageReport {
     pub progress: ReportProgress,
     pub end: usize,
 }
 
 // After a block of input: the progress, how many of its bytes were read, and how many bytes of output there are.
-#[derive(Drop)]
+#[derive(Clone, Copy)]
 pub struct Block {
     pub progress: ReportProgress,
     pub used: usize,
@@ -35,7 +35,7 @@ pub struct Block {
 
 // After the first bytes of a buffer: their block, how many of them are carried over to its front, and whether the
 // reading ends there.
-#[derive(Drop)]
+#[derive(Clone, Copy)]
 pub struct FrontReport {
     pub block: Block,
     pub carried: usize,
@@ -44,7 +44,7 @@ pub struct FrontReport {
 
 // The answer on the first bytes of a buffer; refused where the sizes or the progress are none that a report can go on
 // with.
-#[derive(Drop)]
+#[derive(Clone, Copy)]
 pub enum FrontAnswer {
     Reported(FrontReport),
     Refused,

@@ -3,7 +3,7 @@ use interface::State;
 use text::{Parse, Reply};
 
 // The cut that waits for the next accepted p, or r that stores: how many stores of each line it leaves.
-#[derive(Drop)]
+#[derive(Clone, Copy)]
 pub enum Waiting {
     Nothing,
     Counts { a: usize, b: usize },
@@ -11,7 +11,7 @@ pub enum Waiting {
 
 // What a session keeps beside the image and the index: the number of slots, 0 before an accepted n, the state and the
 // waiting cut.
-#[derive(Drop)]
+#[derive(Clone, Copy)]
 pub struct Session {
     pub n: u64,
     pub state: State,
@@ -19,7 +19,7 @@ pub struct Session {
 }
 
 // A step's answer and the session after it.
-#[derive(Drop)]
+#[derive(Clone, Copy)]
 pub struct Stepped {
     pub reply: Reply,
     pub session: Session,
@@ -27,7 +27,7 @@ pub struct Stepped {
 
 // Where the input stands: the part of a line that was read and whether there is one, the session, and the end of the
 // output that is stored.
-#[derive(Drop)]
+#[derive(Clone, Copy)]
 pub struct Progress {
     pub parse: Parse,
     pub begun: bool,

@@ -3,7 +3,7 @@ ghost use Rattle.std.specs.Prelude.{◌≤◌, length};
 ghost use Rattle.io.specs.Counts.{IsPrefixLen};
 
 // The numbers of a line so far: `place` is the one that is read, 0 for the name.
-#[derive(Drop)]
+#[derive(Clone, Copy)]
 struct Reading {
     place: usize,
     value: [u64; 5],

@@ -1,7 +1,7 @@
 // Counting the slots of an image: types, definitions and laws.
 
 // How many slots of an accepted image are of each class, in the order of document 02.
-#[derive(Drop)]
+#[derive(Clone, Copy)]
 pub struct SlotCounts {
     pub live: u32,
     pub hidden: u32,
@@ -12,7 +12,7 @@ pub struct SlotCounts {
 }
 
 // The answer: the six counts, or recovery's refusal with the slot that it names, 0 for none.
-#[derive(Drop)]
+#[derive(Clone, Copy)]
 pub enum CountAnswer {
     Counted(SlotCounts),
     Refused { number: u32, slot: u32 },

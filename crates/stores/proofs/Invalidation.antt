@@ -40,6 +40,7 @@ module _ (m : ℕ → ℕ) where
 
   invalidating_A : (slots : List ℕ) → Once slots → (s : ℕ) → In s slots → on_line (2 * s) (invalidating_stores m slots) ≡ invalidating_store m s ∷ []
   unfolding invalidating_stores invalidating_store
+  invalidating_A [] once s x'' = elim x'' [ ]
   invalidating_A (x ∷ slots) once s (inl q) =
       on_hit (2 * s) (invalidating_store m x) (invalidating_stores m slots) (omega arith)
       ∙ ap₂ (λ (t : ℕ) (r : List Store). invalidating_store m t ∷ r) (sym q)

@@ -1,14 +1,14 @@
 // Stores and what stands of them after a cut: types, definitions and laws.
 
 // A store: it sets the word with this number, counted from the start of an image or of an area, to the value.
-#[derive(Drop)]
+#[derive(Clone, Copy)]
 pub struct Store {
     pub word: u32,
     pub value: u64,
 }
 
 // Sixteen stores: store i sets word at[i] of the image to value[i].
-#[derive(Drop)]
+#[derive(Clone, Copy)]
 pub struct Stores {
     pub at: [u32; 16],
     pub value: [u64; 16],

@@ -1,7 +1,7 @@
 // The lines of the trial session, read and printed: types, definitions and laws.
 
 // What a line of input asks; Bad is a line of none of the forms.
-#[derive(Drop)]
+#[derive(Clone, Copy)]
 pub enum Line {
     New(u64),
     Write { key: u64, word: u64 },
@@ -12,7 +12,7 @@ pub enum Line {
 }
 
 // The part of a number that was read: no digit yet, the value of its digits, or no number below 2^64.
-#[derive(Drop)]
+#[derive(Clone, Copy)]
 pub enum Digits {
     NoDigit,
     Value(u64),
@@ -21,7 +21,7 @@ pub enum Digits {
 
 // The part of a line that was read: nothing, its letter, up to its first number, up to its second number, or what no
 // line starts with.
-#[derive(Drop)]
+#[derive(Clone, Copy)]
 pub enum Parse {
     Start,
     Letter(u8),
@@ -39,7 +39,7 @@ pub enum Parse {
 
 // A step's answer: an accepted n, the slot taken and the version, the word found, absent, the cut that now waits, or a
 // refusal; in a trace the counts of a call's cuts, or nothing.
-#[derive(Drop)]
+#[derive(Clone, Copy)]
 pub enum Reply {
     Made(u64),
     Stored { slot: u32, version: u64 },
