@@ -74,6 +74,7 @@ formed_push i owner chains (head h) s g a t f = record {
 
 pub owner-in : (place : ℕ → Chain) (l : List ℕ) (x : ℕ) → In x l → owner_of place l x ≡ of (place x)
 unfolding owner_of
+owner-in place [] x x3 = elim x3 [ ]
 owner-in place (s ∷ l) x (inl d) = give_same (owner_of place l) s (of (place s)) x d ∙ ap (λ (y : ℕ). of (place y)) (sym d)
 owner-in place (s ∷ l) x (inr m) = go (told x s) (owner-in place l x m)
   where

@@ -53,6 +53,7 @@ run_first f a (x ∷ xs) r = r.0
 
 pub run_next : (f : ℕ → ℕ) (s a : ℕ) (xs : List ℕ) → Run f a xs 0 → In s xs → f s ≡ after s xs
 unfolding after
+run_next f s a [] r x'' = elim x'' [ ]
 run_next f s a (x ∷ xs) r (inl e) =
     ap f e ∙ run_first f (f x) xs r.1 ∙ sym (pick_true _ (first_of xs) (after s xs) (eq-eqb x s (sym e)))
 run_next f s a (x ∷ xs) r (inr m) = go (told x s) (run_next f s (f x) xs r.1 m)

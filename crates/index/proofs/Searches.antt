@@ -152,6 +152,7 @@ search_in_counted key k l BadChain e = absurd (never_bad key k l e)
 -- it is at most the length of the list
 pub counted_few : (key : ℕ → ℕ) (k : ℕ) (l : List ℕ) (found : Found) → Counted key k l found → compared_in found ≤ length l
 unfolding compared_in
+counted_few key k l BadChain x' = elim x' [ ]
 counted_few key k l (At s prev count) (at_place before behind e h n c) =
     omega (arith, ap (λ (xs : List ℕ). length xs) e, length-append before (s ∷ behind))
 counted_few key k l (Missing prev count) (at-end n c) = omega arith

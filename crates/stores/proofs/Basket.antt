@@ -64,7 +64,7 @@ module _ (l : ℕ) (m : ℕ → ℕ) (number version : ℕ) where
         line_B = on_append (2 * e.slot + 1) x ss ∙ ap₂ (λ (p q : List Store). p ++ q) none.line_B has.line_B;
       }
 
-  all_behind : {es : List BasketRecord} (x ss : List Store) → ((t : ℕ) → In t (basket_slots es) → Avoids x t) → All (Holds ss) es → All (Holds (x ++ ss)) es
+  all_behind : (x ss : List Store) {es : List BasketRecord} → ((t : ℕ) → In t (basket_slots es) → Avoids x t) → All (Holds ss) es → All (Holds (x ++ ss)) es
   unfolding basket_slots
   all_behind x ss h none_left = none_left
   all_behind x ss h (one_more {x = e} has more) =
@@ -93,9 +93,10 @@ module _ (l : ℕ) (m : ℕ → ℕ) (number version : ℕ) where
         one_more (carried l counts m ss e.slot e.key e.kind number e.value version has fine.fields fine.above)
         (each_written more rest)
 
-  into_slot : {es : List BasketRecord} (ss : List Store) → All (Holds ss) es → All (LawfulRecord l m number version) es
+  into_slot : (ss : List Store) {es : List BasketRecord} → All (Holds ss) es → All (LawfulRecord l m number version) es
       → (t : ℕ) → In t (basket_slots es) → SlotStores l m ss t
   unfolding basket_slots
+  into_slot ss none_left _ t x6 = elim x6 [ ]
   into_slot ss (one_more {x = e} has more) (one_more fine rest) t (inl q) =
       subst (SlotStores l m ss) (sym q)
       (carries e.key e.kind number e.value version has fine.fields fine.lawful fine.above)

@@ -44,7 +44,7 @@ played_bytes [] img h = h
 played_bytes (s ∷ ss) img h = played_bytes ss (set_word img s.word s.value) (set_word_bytes img s.word s.value h)
 
 -- THE BRIDGE
-bridge : {ss : List Store} (img : List ℕ) {n : ℕ} → StoresInside n ss → length img ≡ n → word (played ss img) ≡ played_words ss (word img)
+bridge : {n : ℕ} {ss : List Store} (img : List ℕ) → StoresInside n ss → length img ≡ n → word (played ss img) ≡ played_words ss (word img)
 unfolding played played_words
 bridge img nil_in e = refl
 bridge img (cons_in {s = s} {ss = ss} h b r) e =

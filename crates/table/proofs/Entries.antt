@@ -32,6 +32,7 @@ pub record EntryAt (P : BasketRecord → Type 0) (version : ℕ) (es : List Bask
 pub entry_at : {P : BasketRecord → Type 0} (version : ℕ) (es : List BasketRecord) → Once (basket_slots es) → All P es → (t : ℕ) → In t (basket_slots es)
     → EntryAt P version es t
 unfolding basket_slots record_at
+entry_at {P = P} version [] once _ t x4 = elim x4 [ ]
 entry_at version (e ∷ es) once (one_more h hs) t (inl q) =
     record { entry = e; slot_is = sym q; here = pick_true (eqb t e.slot) _ _ (eq-eqb t e.slot q); holds = h }
 entry_at {P} version (e ∷ es) once (one_more h hs) t (inr i) = go (entry_at version es once.1 hs t i)

@@ -43,6 +43,7 @@ keys_from f (t ∷ ts) k (inr i) = let r = keys_from f ts k i in (r.0, inr r.1, 
 
 in_keys : (f : Table) (ts : List ℕ) (t : ℕ) → In t ts → In (key_in (f t)) (keys_of f ts)
 unfolding keys_of
+in_keys f [] x x'' = elim x'' [ ]
 in_keys f (t ∷ ts) x (inl e) = inl (ap (λ (y : ℕ). key_in (f y)) e)
 in_keys f (t ∷ ts) x (inr i) = inr (in_keys f ts x i)
 
