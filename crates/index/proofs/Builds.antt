@@ -45,8 +45,8 @@ disjoint_front : (i : Index) (owner : ℕ → Owner) (chains : Chain → List �
 unfolding link_new
 disjoint_front i owner chains c s n w a t f e =
     let v : Disjoint (set_next i s n) owner chains = disjoint_set _ _ _ s n w t.low f in
-    disjoint_insert _ _ _ c [] s (chains c) v refl (room_size _ _ c (set_heads i s n) a)
-    (slot_size _ _ s (set_size i s n) t) f
+    disjoint_insert _ _ _ c [] s (chains c) v refl (room_size i (set_next i s n) c (set_heads i s n) a)
+    (slot_size i (set_next i s n) s (set_size i s n) t) f
     (set_here i s n c t ∙ e ∙ sym (set_else i s n c 0 (λ d. omega (arith, t.low))))
 
 front_ends : (l s : ℕ) (xs : List ℕ) → ((x : ℕ) → In x xs → 0 < x) → l ≡ end_of 0 xs → cond (eqb l 0) s l ≡ end_of s xs

@@ -65,8 +65,8 @@ disjoint_end i owner chains c s prev w a t f p =
     let e : chains c ≡ chains c ++ [] = sym (append-nil (chains c)) in
     let z : ahead (set_next i s 0) c (end_of 0 (chains c)) ≡ 0 =
     run_after (ahead (set_next i s 0) c) 0 (chains c) [] 0 (rw e at (v.runs c)) in
-    rw p (disjoint_insert _ _ _ c (chains c) s [] v e (room_size _ _ c (set_heads i s 0) a)
-    (slot_size _ _ s (set_size i s 0) t) f (set_here i s 0 c t ∙ sym z))
+    rw p (disjoint_insert _ _ _ c (chains c) s [] v e (room_size i (set_next i s 0) c (set_heads i s 0) a)
+    (slot_size i (set_next i s 0) s (set_size i s 0) t) f (set_here i s 0 c t ∙ sym z))
 
 pub formed_append : (i : Index) (owner : ℕ → Owner) (chains : Chain → List ℕ) (s : ℕ) → WellFormed i owner chains → Entry i s → owner s ≡ free
     → WellFormed (append i s) (give owner s (of reuse)) (with_chain chains reuse (chains reuse ++ s ∷ []))

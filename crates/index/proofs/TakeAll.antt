@@ -1,5 +1,5 @@
 -- The slots that a basket takes leave the reuse chain, and the other chains stay. Assumes nothing.
-use mathlib.Core.Path.{◌≡◌, refl, sym, ap, ◌∙◌, fun_ext}
+use mathlib.Core.Path.{◌≡◌, refl, sym, ap, ◌∙◌, subst, fun_ext}
 use mathlib.Core.Bool.{Bool, true, false, cond, not}
 use mathlib.Core.Logic.{inl, inr}
 use mathlib.Core.List.{List, [], ◌∷◌, ◌++◌, append-nil, append_assoc}
@@ -42,7 +42,7 @@ last-after : (last s : ℕ) (xs ys : List ℕ) → last ≡ end_of 0 (xs ++ s �
 last-after last s xs [] e alone = rw (eq-eqb last s (e ∙ end_snoc 0 xs s), append-nil)
 last-after last s xs (y ∷ ys) e alone =
     let d : last ≡ end_of y ys = e ∙ end_after 0 xs s (y ∷ ys) in
-    rw (ne_eqb last s (λ q. alone (in_right s xs (y ∷ ys) (rw (sym d ∙ q) at (end_in y ys))))) (d ∙ sym (end_after 0 xs y ys))
+    rw (ne_eqb last s (λ q. alone (in_right s xs (y ∷ ys) (subst (λ (w : ℕ). In w (y ∷ ys)) (sym d ∙ q) (end_in y ys))))) (d ∙ sym (end_after 0 xs y ys))
 
 formed_take_slot : (i : Index) (owner : ℕ → Owner) (chains : Chain → List ℕ) (xs : List ℕ) (s : ℕ) (ys : List ℕ) (prev : ℕ)
     → WellFormed i owner chains → chains reuse ≡ xs ++ s ∷ ys → prev ≡ end_of 0 xs

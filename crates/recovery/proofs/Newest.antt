@@ -20,6 +20,7 @@ use Rattle.recovery.specs.Recover.{newest_slot}
 -- where the ranks never fall, the last element has the greatest
 last_greatest : (g : ℕ → ℕ) (xs : List ℕ) → Rising g xs → (y : ℕ) → In y xs → In (last_of xs) xs × (g y ≤ g (last_of xs))
 unfolding last_of
+last_greatest g [] r y x'' = elim x'' [ ]
 last_greatest g (x ∷ []) r y (inl e) = (inl refl, omega (arith, ap g e))
 last_greatest g (x ∷ []) r y (inr m) = absurd m
 last_greatest g (x ∷ z ∷ xs) r y (inl e) =
