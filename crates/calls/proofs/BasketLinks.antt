@@ -96,7 +96,7 @@ left_last : (n : ℕ) (slots prevs : List ℕ) (i : Index) (j k : ℕ) → ((x :
 unfolding all_taken_of takens_from
 left_last n slots prevs i j zero h l = l
 left_last n slots prevs i j (suc k) h l =
-    left_last n slots prevs _ (suc j) k (λ x a b. h x (omega arith) (omega arith))
+    left_last n slots prevs (take_slot i (record { slot = get_or slots j 0; prev = get_or prevs j 0 })) (suc j) k (λ x a b. h x (omega arith) (omega arith))
     (unfold take_slot in unfold set_last in pick (eqb i.state.last (get_or slots j 0)))
   where
     pick : (b : Bool) → cond b (get_or prevs j 0) i.state.last ≤ n

@@ -332,6 +332,7 @@ module _ (l : ℕ) (lay : Layout l) (w : World) (chains : Chain → List ℕ) (a
           by (unheld h q) = holder_none f n c.key h
 
       go : (x : Found) → found c.key ≡ x → Sees (table_of l w.image) n c.key (chains (head (head_of c.key b))) x → KeyReady f n found c
+      go Rattle.index.specs.declared.Found.TheVariants.BadChain e x3 = elim x3 [ ]
       go (At old prev compared) e (sees_held xs ys v parts before j d a m u) =
           let k = holder_at l w chains g none_void c.key old j d a in
           let h = held_some (map_of f n c.key) v (sym (same_map l w chains g none_void c.key) ∙ m) in

@@ -275,6 +275,7 @@ module _ (l : ℕ) (lay : Layout l) (w : World) (chains : Chain → List ℕ) (a
 
       go : (found : Found) → search l w.image i.heads i.next key ≡ found
           → Sees (table_of l w.image) n key (chains (head (head_of key (length i.heads)))) found → RemoveIs key
+      go Rattle.index.specs.declared.Found.TheVariants.BadChain e x'' = elim x'' [ ]
       go (At old prev compared) e (sees_held xs ys v parts p j d live m u) =
           of-held (ap is_held m)
           (λ t rest h.

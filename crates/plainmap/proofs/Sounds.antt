@@ -38,6 +38,7 @@ use Rattle.layout.proofs.Lents.{index_sized}
 -- ---- a spare slot stands in reuse
 
 in_starts : (t : ℕ) (xs : List ℕ) → In t xs → Starts xs
+in_starts t mathlib.Core.List.[] i = elim i [ ]
 in_starts t (x ∷ xs) i = starts x xs refl
 
 pub room_starts : (f : Table) (n b : ℕ) (i : Index) (chains : Chain → List ℕ) → ChainsPartition n b (place_of f n b) i chains → live_count f n < n
