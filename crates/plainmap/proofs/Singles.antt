@@ -247,6 +247,8 @@ module _ (l : ℕ) (lay : Layout l) (w : World) (chains : Chain → List ℕ) (a
       go : (mode : Mode) (found : Found) → search l w.image i.heads i.next key ≡ found → action_fault (Write mode) (is_found found) ≡ 0
           → Sees (table_of l w.image) n key (chains (head (head_of key (length i.heads)))) found
           → write_done l w.image i key value s (take_slot i first) count found ≡ made l w.image i key s count (Write mode) value
+      go Replace Rattle.index.specs.declared.Found.TheVariants.BadChain e a sees = elim sees [ ]
+      go Insert Rattle.index.specs.declared.Found.TheVariants.BadChain e a sees = elim sees [ ]
       go Insert (At old prev compared) e a sees = absurd (true≢false (insert_free true a))
       go Insert (Missing prev compared) e a (sees_absent p m) =
           insert_one l w.image i key s count value prev compared (before_end i _ chains n _ g.index.formed.disjoint g.index.next_size ∙ sym p)
