@@ -15,7 +15,7 @@ use Rattle.prelude.proofs.Refusals.{taken_leaves, refused_keeps}
 use Rattle.interface.specs.Set.{World, Mode, Insert, Replace, Call, write, remove, call_result, write_result, remove_result, PlainMap, write_typed, remove_typed}
 use Rattle.interface.specs.Set.{is_held, plain_answer, holder, table_of, slots_in}
 use Rattle.interface.specs.Laws.{SetLaws}
-use Rattle.interface.proofs.Located.{located}
+use Rattle.interface.proofs.LocatedSlot.{located}
 use Rattle.book.specs.Orders.{order_bytes, sent, acknowledged, filled_by, open_of}
 use Rattle.book.specs.Steps.{Step, new, acknowledge, fill, withdraw, new_at, new_result_by, already_at, acknowledge_at, acknowledge_result_by, fill_by, fill_at}
 use Rattle.book.specs.Steps.{fill_result_by, withdraw_at, withdraw_result_by, quantity_fault, as_change, seek, booked, booked_by}

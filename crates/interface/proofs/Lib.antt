@@ -4,7 +4,7 @@ pub mod Heads
 pub mod Stored
 pub mod SetLaws
 pub mod Numbers
-pub mod Located
+pub mod LocatedSlot
 pub mod Rooms
 pub mod defs
 pub mod CutCounts

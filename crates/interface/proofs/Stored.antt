@@ -108,6 +108,8 @@ module _ (l : ℕ) (w : World) (lent : List Store) where
   pub hands_out : (call : Call) → Writes call → (given : List ℕ) → (call_result l w call).answer ≡ gives given
       → stores_after (call_result l w call).stores lent ≡ (call_result l w call).stores
   unfolding HandsOut call_result write_result_by write_unless remove_result_by remove_unless
+  hands_out (locate key) x'' = elim x'' [ ]
+  hands_out (get key out) x' = elim x' [ ]
   hands_out (write mode key value) write_writes = by_refusal HandsOut _ _ _ (write_out key value _ _ _ _) (refused_out _ _)
   hands_out (remove key) remove_writes = by_refusal HandsOut _ _ _ (remove_out key _ _ _ _) (refused_out _ _)
 

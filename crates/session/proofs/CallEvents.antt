@@ -16,7 +16,7 @@ use Rattle.interface.specs.Set.{remove, get, CallResult, write_result, locate_re
 use Rattle.interface.specs.Set.{after_rounds, slots_in, PlainMap, Typed, write_typed, remove_typed, reads_only, Unchanged, Index, out_of, index_of}
 use Rattle.interface.specs.Event.{Cut, done, struck, effects_of, step, Fits, done_fits, step_by, image_cut}
 use Rattle.interface.proofs.Stored.{refusal_still}
-use Rattle.interface.proofs.Located.{located}
+use Rattle.interface.proofs.LocatedSlot.{located}
 use Rattle.interface.specs.Laws.{Writes, write_writes, remove_writes, SetLaws}
 use Rattle.text.specs.Output.{Printed, ok}
 use Rattle.session.specs.Step.{StepResult, leaves, played_all, recover_step, stored_with, changed_as, change_step, word_bytes, mode_by, word_change, write_step}
