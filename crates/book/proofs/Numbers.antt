@@ -33,6 +33,7 @@ get_in k (inr (inl e)) = rw e (one_of 2 step_refusals refl)
 get_in k (inr (inr (inl e))) = rw e (one_of 3 step_refusals refl)
 get_in k (inr (inr (inr (inl e)))) = rw e (one_of 4 step_refusals refl)
 get_in k (inr (inr (inr (inr (inl e))))) = rw e (one_of 11 step_refusals refl)
+get_in k (inr (inr (inr (inr (inr (inr x6)))))) = elim x6 [ ]
 get_in k (inr (inr (inr (inr (inr (inl e)))))) = rw e (one_of 18 step_refusals refl)
 
 -- where a step finds an order its get answered a value, and where not the number is one of them

@@ -1,7 +1,7 @@
 -- THE MACHINE: a program over a memory behind a cache, and what may happen to both. It knows lines, stores, a recovery
 -- and requests, and not what they are for.
 use Rattle.std.specs.Prelude.{◌≡◌, Bool, true, false, cond, not, ◌&&◌, ℕ, ◌+◌, ◌*◌, ◌/◌, ◌≤◌, eqb, length}
-use Rattle.std.proofs.Math.Option.{Option, none, some, Option·elim}
+use Rattle.std.proofs.Math.Option.{Option, none, some, Option-elim}
 use mathlib.Core.List.{List, [], ◌∷◌, ◌++◌, foldl}
 use Rattle.prelude.specs.Filter.{filter, is_among}
 use Rattle.prelude.specs.Members.{All}
@@ -126,7 +126,7 @@ pub record History (Held Request : Type 0) : Type 0 where
 
 -- the undecided request, if any, has this outcome
 unfoldable pub decide : {Held Request : Type 0} → Outcome → History Held Request → History Held Request
-decide outcome h = record { requests = h.requests; decided = Option·elim h.undecided h.decided (λ t. (t, outcome) ∷ h.decided); undecided = none }
+decide outcome h = record { requests = h.requests; decided = Option-elim h.undecided h.decided (λ t. (t, outcome) ∷ h.decided); undecided = none }
 
 -- ---- the moves. Each can come at any time; one that the program cannot make changes nothing
 
