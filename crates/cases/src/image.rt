@@ -1,5 +1,5 @@
 // The calls on the image without a key: format, recover and the plays.
-ghost use Rattle.io.specs.Counts.{IsPrefixLen};
+ghost use Rattle.show.specs.Fronts.{IsPrefixLen};
 
 use crate::set::{Set, lent, show_index};
 use crate::step::played_in;

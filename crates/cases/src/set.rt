@@ -1,7 +1,7 @@
 // The set that the lines work on: an image of at most four slots, its index of at most two heads, its state, the stores
 // handed out last and the invalidating stores. Any number of it may be set to any other, and a call may be lent less
 // than all of it.
-ghost use Rattle.io.specs.Counts.{IsPrefixLen};
+ghost use Rattle.show.specs.Fronts.{IsPrefixLen};
 
 use crate::names::{BYTE, INDEX, LEND, STATE, STORE};
 use orderset::{Invalidations, State, Stores};
