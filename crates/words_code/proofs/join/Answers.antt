@@ -24,10 +24,12 @@ above k w s b hk hb (e, h) = (ap₂ bit_or e (mod-eq_of_lt fits) ∙ or_shifted_
 
 pub returns : goal.returns
 returns c =
-    record { result = (let w1 = above 8 c.args.b0 c.args.b0 c.args.b1 (omega arith) (omega arith) (refl, omega arith) in
-    let w2 = above 16 _ _ c.args.b2 (omega arith) (omega arith) w1 in
-    let w3 = above 24 _ _ c.args.b3 (omega arith) (omega arith) w2 in
-    let w4 = above 32 _ _ c.args.b4 (omega arith) (omega arith) w3 in
-    let w5 = above 40 _ _ c.args.b5 (omega arith) (omega arith) w4 in
-    let w6 = above 48 _ _ c.args.b6 (omega arith) (omega arith) w5 in
-    (above 56 _ _ c.args.b7 (omega arith) (omega arith) w6).0 ∙ omega arith) }
+    record {
+      result = (let w1 = above 8 c.args.b0 c.args.b0 c.args.b1 (omega arith) (omega arith) (refl, omega arith) in
+          let w2 = above 16 _ _ c.args.b2 (omega arith) (omega arith) w1 in
+          let w3 = above 24 _ _ c.args.b3 (omega arith) (omega arith) w2 in
+          let w4 = above 32 _ _ c.args.b4 (omega arith) (omega arith) w3 in
+          let w5 = above 40 _ _ c.args.b5 (omega arith) (omega arith) w4 in
+          let w6 = above 48 _ _ c.args.b6 (omega arith) (omega arith) w5 in
+          (above 56 _ _ c.args.b7 (omega arith) (omega arith) w6).0 ∙ omega arith);
+    }
