@@ -1,4 +1,3 @@
-// A lent list of stores: the borrow checker covers no reference to a slice of structs, so the proof of each function
-// that takes one walks its MIR by hand.
+// A lent list of stores: it is filled from two lists of numbers, and played.
 pub mod list;
 pub mod play;
