@@ -1,6 +1,6 @@
 # The C side: the library, the tools, the examples, the tests and the measurements. The proofs are checked by .ci/run.
-#   make archive   the archives, proved and built: of each crate X of crates.txt whose name ends in _c,
-#                  target/staticlib/libX.a                                                               (rt)
+#   make archive   the archives, proved and built: of each static library X of crates.txt, by rt lib in crates/X, its
+#                  crates/X/out/libX.a, copied to target/staticlib/libX.a                                (rt)
 #   make lib       one library of the archives and the handle: target/lib/liborderset.a and liborderset.so.1   (gcc)
 #   make test      the tests of docs/TESTS.md                     (gcc g++ python3 pkg-config cargo groff); SEED=... repeats
 #                  a run; SAN=address,undefined or SAN=thread: with these sanitizers
@@ -21,10 +21,10 @@
 RT ?= rt
 OUT := target/c
 LIB := target/lib
-ARCHIVES := $(shell sed -n 's|^\(orderset.*_c\):.*|target/staticlib/lib\1.a|p' crates.txt)
-PLUG := target/bin/plug
-REPORT := target/bin/report
-CRATES := crates.txt $(shell find crates -name '*.rt' -o -name '*.antt')
+ARCHIVES := $(shell sed -n 's|^\([a-z0-9_]*_c\) staticlib:.*|target/staticlib/lib\1.a|p' crates.txt)
+PLUG := crates/plug/out/plug
+REPORT := crates/report/out/report
+CRATES := crates.txt $(shell find crates -name out -prune -o \( -name '*.rt' -o -name '*.antt' \) -print)
 VERSION := $(shell sed -n 's/^\#define ORDERSET_VERSION_STRING "\(.*\)"/\1/p' include/orderset.h)
 PREFIX ?= /usr/local
 LIBDIR ?= $(PREFIX)/lib
@@ -64,11 +64,13 @@ lib: $(LIB)/liborderset.a $(LIB)/liborderset.so.1
 
 archive: $(ARCHIVES)
 $(ARCHIVES): target/staticlib/lib%.a: $(CRATES)
-	$(RT) staticlib $*
-$(REPORT): $(CRATES)
-	$(RT) check report
-$(PLUG): $(CRATES)
-	$(RT) check plug
+	cd crates/$* && $(RT) lib
+	@mkdir -p $(@D)
+	cp crates/$*/out/lib$*.a $@
+# a program as rt run makes it, on what stands beside its src/, or as rt ci left it
+$(PLUG) $(REPORT): crates/%: $(CRATES)
+	cd crates/$(*D:/out=) && $(RT) run <stdin >/dev/null
+	@touch $@
 
 refusals:
 	src/refusals.py

@@ -1,8 +1,8 @@
 #!/usr/bin/env python3
-"""tests/planted.py [-jN] [WORD...] plants each fault of tests/planted/TEST/*.edit in a copy of the tree below
-target/planted, runs TEST there with seed 1, and says whether the test failed with the message that the edit asks for. With
-words, only the edits that have one of them in their path or description. N are tried at a time, by default one for each
-processor. It ends with status 1 if a fault was not seen.
+"""tests/planted.py [-jN] [WORD...] plants each fault of tests/planted/TEST/*.edit in a copy of the tree in a temporary
+folder (rt ci refuses a tree with a copy of itself in it), runs TEST there with seed 1, and says whether the test failed with
+the message that the edit asks for. With words, only the edits that have one of them in their path or description. N are
+tried at a time, by default one for each processor. It ends with status 1 if a fault was not seen.
 
 An edit has the form of crates/*/must-fail/*.edit: a description after #, `message:` (a regular expression), `file:`, and for
 each change the lines of the file after `old:`, which stand there once, and those in their place after `new:`."""
@@ -14,10 +14,12 @@ import re
 import shutil
 import subprocess
 import sys
+import tempfile
 
 ROOT = os.path.join(os.path.dirname(os.path.abspath(__file__)), "..")
-ARCHIVES = [f"target/staticlib/lib{name}.a" for name in re.findall(r"^(orderset\w*_c):", open(f"{ROOT}/crates.txt").read(), re.M)]
-BUILT = [*ARCHIVES, "target/bin/report", "target/bin/plug"]
+ARCHIVES = [f"target/staticlib/lib{name}.a" for name in re.findall(r"^(\w+_c) staticlib:", open(f"{ROOT}/crates.txt").read(), re.M)]
+PROGRAMS = ["crates/report/out/report", "crates/plug/out/plug"]
+BUILT = [*ARCHIVES, *PROGRAMS]
 PARTS = "Makefile crates.txt README.md include src examples tests tools man docs bindings".split()
 
 
@@ -47,12 +49,12 @@ class Edit:
 
 
 def copy_tree(tree):
-    shutil.rmtree(tree, ignore_errors=True)
     os.makedirs(f"{tree}/target")
-    os.mkdir(f"{tree}/crates")
     subprocess.run(["cp", "-rp", *PARTS, tree], check=True)
-    for part in "staticlib", "bin":
-        os.symlink(os.path.abspath(f"target/{part}"), f"{tree}/target/{part}")
+    os.symlink(os.path.abspath("target/staticlib"), f"{tree}/target/staticlib")
+    for program in PROGRAMS:
+        os.makedirs(os.path.dirname(f"{tree}/{program}"))
+        os.symlink(os.path.abspath(program), f"{tree}/{program}")
     subprocess.run(["cp", "-rp", *glob.glob("target/[clr]*"), f"{tree}/target"], check=True)
 
 
@@ -86,10 +88,10 @@ def main():
     edits = [Edit(path) for path in sorted(glob.glob("tests/planted/*/*.edit"))]
     edits = [e for e in edits if not words or any(w in f"{e.path} {e.what}" for w in words)]
     trees, unseen = queue.Queue(), 0
-    for i in range(min(at_once, len(edits))):
-        copy_tree(f"target/planted/{i}")
-        trees.put(f"target/planted/{i}")
-    with concurrent.futures.ThreadPoolExecutor(at_once) as pool:
+    with tempfile.TemporaryDirectory(prefix="planted-") as room, concurrent.futures.ThreadPoolExecutor(at_once) as pool:
+        for i in range(min(at_once, len(edits))):
+            copy_tree(f"{room}/{i}")
+            trees.put(f"{room}/{i}")
         for edit, (seen, said) in zip(edits, pool.map(lambda e: attempt(e, trees), edits)):
             unseen += seen is None
             print(f"seen      {edit.test}: {edit.what}: {seen[:100]}" if seen else f"NOT SEEN  {edit.path}: {said}", flush=True)

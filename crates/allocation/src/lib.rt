@@ -1,5 +1,7 @@
 // The slots that a call takes from the reuse chain: types, definitions and laws, no function.
 
+#![tactic(auto)]
+
 // A version that is not above the highest valid one; where exact, it is the highest.
 #[derive(Clone, Copy)]
 pub struct Known {

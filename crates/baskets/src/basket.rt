@@ -1,7 +1,8 @@
 // The basket of the items that were named.
 use crate::set::{Named, Set, no_items, show_lent_index};
 use orderset::{BasketAnswer, BasketOutcome, basket};
-use show::fronts::{numbers_of, values_of};
+use show::fronts::{bytes_of, numbers_of, values_of};
+use std::io::Stdout;
 
 // Sixteen stores for each of so many keys.
 fn stores_for(keys: usize) -> usize {
@@ -12,19 +13,19 @@ fn stores_for(keys: usize) -> usize {
 }
 
 // The answer is printed; how many stores were handed out.
-fn show_basket_answer(r: BasketAnswer, count: usize) -> usize {
+fn show_basket_answer(stdout: Stdout, r: BasketAnswer, count: usize) -> usize {
     let outcome = r.outcome;
     match outcome {
         BasketOutcome::Stored { version } => {
-            show::text(b" ok");
-            show::number(version);
+            show::text(stdout, b" ok");
+            show::number(stdout, version);
             let slots = r.slots;
             let n = numbers_of(count, &slots);
-            show::numbers(&slots[..n]);
+            show::numbers(stdout, &slots[..n]);
             stores_for(n)
         }
         BasketOutcome::Refused(number) => {
-            show::refused(number);
+            show::refused(stdout, number);
             0
         }
     }
@@ -38,7 +39,7 @@ fn items_after(named: Named, count: usize) -> Named {
     no_items()
 }
 
-fn call_basket(set: Set) -> Set {
+fn call_basket(stdout: Stdout, set: Set) -> Set {
     let image = set.image;
     let mut heads = set.heads;
     let mut next = set.next;
@@ -51,7 +52,7 @@ fn call_basket(set: Set) -> Set {
     let lent = set.lent;
     let v = values_of(lent.value, &value);
     let t = numbers_of(lent.at, &at);
-    let i = io::count((lent.image % 2177) as isize, &image);
+    let i = bytes_of(lent.image % 2177, &image);
     let h = numbers_of(lent.heads, &heads);
     let k = numbers_of(lent.next, &next);
     let r = basket(
@@ -65,7 +66,7 @@ fn call_basket(set: Set) -> Set {
         &mut at[..t],
         &mut value[..v],
     );
-    let count = show_basket_answer(r, named.count);
+    let count = show_basket_answer(stdout, r, named.count);
     let state = r.state;
     let mut after = set;
     after.heads = heads;
@@ -77,11 +78,11 @@ fn call_basket(set: Set) -> Set {
     after
 }
 
-pub fn run_basket(set: Set) -> Set {
-    let mut after = call_basket(set);
+pub fn run_basket(stdout: Stdout, set: Set) -> Set {
+    let mut after = call_basket(stdout, set);
     let state = after.state;
-    show::state(state);
-    show_lent_index(after);
+    show::state(stdout, state);
+    show_lent_index(stdout, after);
     let named = set.basket;
     after.opens = false;
     after.basket = items_after(named, after.count);

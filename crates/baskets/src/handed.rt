@@ -1,8 +1,9 @@
 // The stores handed out last: putting them into the lists, plays, cuts and printing.
 use crate::set::Set;
 use orderset::play_list;
-use show::fronts::{numbers_of, values_of};
+use show::fronts::{bytes_of, numbers_of, values_of};
 use show::lines::decimal_digit;
+use std::io::Stdout;
 
 // The set with so many first entries of these at the front of its lists.
 pub fn put_front(set: Set, at: &[u32], value: &[u64], count: usize, opens: bool) -> Set {
@@ -79,35 +80,38 @@ fn cut_set_stores(set: Set, counts: u64) -> Set {
     after
 }
 
-pub fn play_set(set: Set) -> Set {
+pub fn play_set(stdout: Stdout, set: Set) -> Set {
     let mut image = set.image;
     let at = set.at;
     let value = set.value;
     let lent = set.lent;
-    let i = io::count((lent.image % 2177) as isize, &image);
+    let i = bytes_of(lent.image % 2177, &image);
     let n = numbers_of(set.count, &at);
     let v = values_of(set.count, &value);
-    show::number(play_list(&mut image[..i], &at[..n], &value[..v]) as u64);
+    show::number(
+        stdout,
+        play_list(&mut image[..i], &at[..n], &value[..v]) as u64,
+    );
     let mut after = set;
     after.image = image;
     after
 }
 
 // A cut that leaves so many stores of each line.
-pub fn cut(set: Set, counts: u64) -> Set {
-    let left = play_set(cut_set_stores(set, counts));
+pub fn cut(stdout: Stdout, set: Set, counts: u64) -> Set {
+    let left = play_set(stdout, cut_set_stores(set, counts));
     let image = left.image;
     let mut after = set;
     after.image = image;
     after
 }
 
-pub fn show_first_stores(set: Set, count: usize) {
+pub fn show_first_stores(stdout: Stdout, set: Set, count: usize) {
     let at = set.at;
     let value = set.value;
     let n = numbers_of(count, &at);
     let v = values_of(count, &value);
-    show::numbers(&at[..n]);
-    show::text(b"\n ");
-    show::values(&value[..v]);
+    show::numbers(stdout, &at[..n]);
+    show::text(stdout, b"\n ");
+    show::values(stdout, &value[..v]);
 }

@@ -2,10 +2,11 @@
 use crate::handed::put_front;
 use crate::set::{Fronts, Set, no_items, show_lent_index};
 use orderset::{format, recover};
-use show::fronts::numbers_of;
+use show::fronts::{bytes_of, numbers_of};
+use std::io::Stdout;
 use words_code::read_word;
 
-pub fn format_set(set: Set, n: [u64; 5]) -> Set {
+pub fn format_set(stdout: Stdout, set: Set, n: [u64; 5]) -> Set {
     let slots = (n[1] % 17) as usize;
     let bytes = 128 * (slots + 1);
     let lent = Fronts {
@@ -16,8 +17,8 @@ pub fn format_set(set: Set, n: [u64; 5]) -> Set {
         value: 130,
     };
     let mut image = set.image;
-    let i = io::count(bytes as isize, &image);
-    show::formatted(format(&mut image[..i], 1));
+    let i = bytes_of(bytes, &image);
+    show::formatted(stdout, format(&mut image[..i], 1));
     let none = no_items();
     let mut after = set;
     after.image = image;
@@ -26,27 +27,27 @@ pub fn format_set(set: Set, n: [u64; 5]) -> Set {
     after
 }
 
-pub fn recover_set(set: Set) -> Set {
+pub fn recover_set(stdout: Stdout, set: Set) -> Set {
     let image = set.image;
     let mut heads = set.heads;
     let mut next = set.next;
     let s = set.state;
     let lent = set.lent;
-    let i = io::count((lent.image % 2177) as isize, &image);
+    let i = bytes_of(lent.image % 2177, &image);
     let h = numbers_of(lent.heads, &heads);
     let k = numbers_of(lent.next, &next);
     let answer = recover(&image[..i], &mut heads[..h], &mut next[..k]);
     let r = answer.recovered;
     let invalidations = answer.invalidations;
-    show::recovered(r);
-    show::invalidations(invalidations);
+    show::recovered(stdout, r);
+    show::invalidations(stdout, invalidations);
     let at = invalidations.at;
     let value = invalidations.value;
     let mut after = put_front(set, &at, &value, invalidations.count as usize, true);
     after.heads = heads;
     after.next = next;
     after.state = show::state_after(r, s);
-    show_lent_index(after);
+    show_lent_index(stdout, after);
     after
 }
 
@@ -57,7 +58,7 @@ fn image_word_or_zero(image: &[u8; 2176], i: usize) -> u64 {
     0
 }
 
-pub fn show_image_word(set: Set, i: usize) {
+pub fn show_image_word(stdout: Stdout, set: Set, i: usize) {
     let image = set.image;
-    show::number(image_word_or_zero(&image, i));
+    show::number(stdout, image_word_or_zero(&image, i));
 }

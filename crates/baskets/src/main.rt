@@ -2,6 +2,8 @@
 // cuts and recoveries with their invalidating stores. A line is a name and numbers. One that ends in a colon is a call,
 // and what it answers and leaves is printed after it; another names an item of the basket to come, sets a part of the
 // set or, if it has no such name, is only printed.
+#![tactic(auto)]
+
 mod basket;
 mod handed;
 mod image;
@@ -19,41 +21,43 @@ use names::{BASKET, CUT, FORMAT, GET, INSERT, PLAY, RECOVER, REMOVE, REPLACE, ST
 use orderset::{Action, Mode};
 use set::{Set, start_baskets};
 use setup::set_up_baskets;
+use show::input::read_full;
 use show::lines::{is_asked, parse_numbers, until};
 use single::{is_single, run_single, show_get};
+use std::io::Stdout;
 use words_code::padded_word;
 
 // A line that ends in a colon.
-fn run_basket_call(set: Set, name: u64, n: [u64; 5]) -> Set {
+fn run_basket_call(stdout: Stdout, set: Set, name: u64, n: [u64; 5]) -> Set {
     if name == FORMAT {
-        return format_set(set, n);
+        return format_set(stdout, set, n);
     }
     if name == RECOVER {
-        return recover_set(set);
+        return recover_set(stdout, set);
     }
     if name == BASKET {
-        return run_basket(set);
+        return run_basket(stdout, set);
     }
     if name == PLAY {
-        return play_set(set);
+        return play_set(stdout, set);
     }
     if name == CUT {
-        return cut(set, n[1]);
+        return cut(stdout, set, n[1]);
     }
     if name == GET {
-        show_get(set, n[1]);
+        show_get(stdout, set, n[1]);
         return set;
     }
     if name == STORES {
-        show_first_stores(set, n[1] as usize);
+        show_first_stores(stdout, set, n[1] as usize);
         return set;
     }
     if name == WORD {
-        show_image_word(set, n[1] as usize);
+        show_image_word(stdout, set, n[1] as usize);
         return set;
     }
     if is_single(name) {
-        return run_single(set, name, n);
+        return run_single(stdout, set, name, n);
     }
     set
 }
@@ -72,35 +76,35 @@ fn prepare_basket(set: Set, name: u64, n: [u64; 5]) -> Set {
     set_up_baskets(set, name, n)
 }
 
-fn dispatch_basket_line(set: Set, line: &[u8]) -> Set {
+fn dispatch_basket_line(stdout: Stdout, set: Set, line: &[u8]) -> Set {
     let end = until(line, 0, 97);
     let name = padded_word(&line[..end], 0);
     let n = parse_numbers(line);
     if is_asked(line) {
-        return run_basket_call(set, name, n);
+        return run_basket_call(stdout, set, name, n);
     }
     prepare_basket(set, name, n)
 }
 
-fn run_basket_line(set: Set, line: &[u8]) -> Set {
-    show::text(line);
-    let after = dispatch_basket_line(set, line);
-    show::text(b"\n");
+fn run_basket_line(stdout: Stdout, set: Set, line: &[u8]) -> Set {
+    show::text(stdout, line);
+    let after = dispatch_basket_line(stdout, set, line);
+    show::text(stdout, b"\n");
     after
 }
 
-fn run_baskets(input: &[u8]) {
+fn run_baskets(stdout: Stdout, input: &[u8]) {
     let mut set = start_baskets();
     let mut at = 0;
     while at < input.len() {
         let end = until(input, at, 11);
-        set = run_basket_line(set, &input[at..end]);
+        set = run_basket_line(stdout, set, &input[at..end]);
         at = end + 1;
     }
 }
 
-fn main() {
+fn main(rt: HostRuntime) {
     let mut input = [0u8; 16384];
-    let n = io::read_full(libc::STDIN_FILENO, &mut input);
-    run_baskets(&input[..n]);
+    let n = read_full(rt.stdin(), &mut input);
+    run_baskets(rt.stdout(), &input[..n]);
 }

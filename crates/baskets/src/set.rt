@@ -3,6 +3,7 @@
 // other, and a call may be lent less than all of it.
 use orderset::{Action, BasketItem, Mode, State};
 use show::fronts::numbers_of;
+use std::io::Stdout;
 
 // How many bytes, heads, next numbers and entries of the two lists a call is lent, the first ones of each.
 #[derive(Clone, Copy)]
@@ -81,14 +82,14 @@ pub fn start_baskets() -> Set {
 }
 
 // What is lent of the index.
-pub fn show_lent_index(set: Set) {
+pub fn show_lent_index(stdout: Stdout, set: Set) {
     let heads = set.heads;
     let next = set.next;
     let lent = set.lent;
     let h = numbers_of(lent.heads, &heads);
     let k = numbers_of(lent.next, &next);
-    show::text(b" heads");
-    show::numbers(&heads[..h]);
-    show::text(b" next");
-    show::numbers(&next[..k]);
+    show::text(stdout, b" heads");
+    show::numbers(stdout, &heads[..h]);
+    show::text(stdout, b" next");
+    show::numbers(stdout, &next[..k]);
 }

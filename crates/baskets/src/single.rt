@@ -4,7 +4,8 @@ use crate::item::with_value;
 use crate::names::{INSERT, REMOVE, REPLACE};
 use crate::set::{Set, show_lent_index};
 use orderset::{Change, Outcome, State, get, insert, remove, replace};
-use show::fronts::numbers_of;
+use show::fronts::{bytes_of, numbers_of};
+use std::io::Stdout;
 use words_code::read_word;
 
 // Is this the name of a call that changes one key?
@@ -55,7 +56,7 @@ fn handed(set: Set, at: [u32; 16], words: [u64; 16], outcome: Outcome) -> Set {
     put_front(set, &at, &words, stores_by(outcome), false)
 }
 
-fn call_single(set: Set, name: u64, n: [u64; 5]) -> Set {
+fn call_single(stdout: Stdout, set: Set, name: u64, n: [u64; 5]) -> Set {
     let image = set.image;
     let mut heads = set.heads;
     let mut next = set.next;
@@ -64,10 +65,10 @@ fn call_single(set: Set, name: u64, n: [u64; 5]) -> Set {
     let bytes = with_value([0; 640], 0, n[3]);
     let s = set.state;
     let lent = set.lent;
-    let i = io::count((lent.image % 2177) as isize, &image);
+    let i = bytes_of(lent.image % 2177, &image);
     let h = numbers_of(lent.heads, &heads);
     let k = numbers_of(lent.next, &next);
-    let v = io::count((n[2] % 82) as isize, &bytes);
+    let v = bytes_of((n[2] % 82) as usize, &bytes);
     let r = call_by_name(
         &image[..i],
         &mut heads[..h],
@@ -80,7 +81,7 @@ fn call_single(set: Set, name: u64, n: [u64; 5]) -> Set {
         &mut words,
     );
     let outcome = r.outcome;
-    show::outcome(outcome);
+    show::outcome(stdout, outcome);
     let state = r.state;
     let mut after = handed(set, at, words, outcome);
     after.heads = heads;
@@ -89,32 +90,32 @@ fn call_single(set: Set, name: u64, n: [u64; 5]) -> Set {
     after
 }
 
-pub fn run_single(set: Set, name: u64, n: [u64; 5]) -> Set {
-    let after = call_single(set, name, n);
+pub fn run_single(stdout: Stdout, set: Set, name: u64, n: [u64; 5]) -> Set {
+    let after = call_single(stdout, set, name, n);
     let state = after.state;
-    show::state(state);
-    show_lent_index(after);
+    show::state(stdout, state);
+    show_lent_index(stdout, after);
     after
 }
 
-fn show_value_words(bytes: &[u8; 80]) {
-    show::number(read_word(bytes, 0));
-    show::number(read_word(bytes, 3));
-    show::number(read_word(bytes, 4));
-    show::number(read_word(bytes, 9));
+fn show_value_words(stdout: Stdout, bytes: &[u8; 80]) {
+    show::number(stdout, read_word(bytes, 0));
+    show::number(stdout, read_word(bytes, 3));
+    show::number(stdout, read_word(bytes, 4));
+    show::number(stdout, read_word(bytes, 9));
 }
 
-pub fn show_get(set: Set, key: u64) {
+pub fn show_get(stdout: Stdout, set: Set, key: u64) {
     let image = set.image;
     let heads = set.heads;
     let next = set.next;
     let lent = set.lent;
-    let i = io::count((lent.image % 2177) as isize, &image);
+    let i = bytes_of(lent.image % 2177, &image);
     let h = numbers_of(lent.heads, &heads);
     let k = numbers_of(lent.next, &next);
     let mut out = [0u8; 80];
     let r = get(&image[..i], &heads[..h], &next[..k], key, &mut out);
     let got = r.got;
-    show::got(got);
-    show_value_words(&out);
+    show::got(stdout, got);
+    show_value_words(stdout, &out);
 }

@@ -1,4 +1,7 @@
 // The order book: a layer above the set, which it knows by its interface. Types, definitions and laws.
+
+#![tactic(auto)]
+
 use interface::{Mode, State};
 
 // An order: its state (1 sent, 2 acknowledged), the quantity ordered and the quantity filled.

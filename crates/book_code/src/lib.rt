@@ -1,5 +1,8 @@
 // The steps of the order book, by the calls of the set that take the layout as a parameter. None has a `requires`; each
 // contract is one equation. A step whose name ends in 2 is layout 2's.
+
+#![tactic(auto)]
+
 mod steps;
 
 pub use book::{BookChange, BookOutcome};

@@ -1,5 +1,8 @@
 // The steps of the order book for the owner of an index. None has a `requires`; each contract is one equation. A step
 // whose name ends in 2 is layout 2's.
+
+#![tactic(auto)]
+
 mod own;
 
 pub use own::{

@@ -1,4 +1,7 @@
 // The types of the public calls; what the calls answer and change is defined in specs.
+
+#![tactic(auto)]
+
 use index::{Action, State};
 
 // The answer of insert, replace and remove: the slot taken and the version, absent, or a refusal.

@@ -1,2 +1,5 @@
 // The public call that makes an empty set: format.
+
+#![tactic(auto)]
+
 pub mod format;

@@ -3,17 +3,20 @@ use crate::names::{INSERT, REMOVE, REPLACE};
 use crate::set::{Set, lent, show_index};
 use crate::step::{handed_out, open_of, step_told, take_step};
 use orderset::{Change, State, Stores, insert, remove, replace};
+use show::fronts::bytes_of;
+use std::io::Stdout;
 
 // The state after a call, whose answer is printed.
-fn show_change(r: Change) -> State {
+fn show_change(stdout: Stdout, r: Change) -> State {
     let outcome = r.outcome;
-    show::outcome(outcome);
+    show::outcome(stdout, outcome);
     let s = r.state;
     s
 }
 
 // A call of the set by its name, or a step.
 fn call_or_step(
+    stdout: Stdout,
     image: &[u8],
     heads: &mut [u32],
     next: &mut [u32],
@@ -26,19 +29,25 @@ fn call_or_step(
     words: &mut [u64; 16],
 ) -> State {
     if name == INSERT {
-        return show_change(insert(image, heads, next, s, key, value, at, words));
+        return show_change(stdout, insert(image, heads, next, s, key, value, at, words));
     }
     if name == REPLACE {
-        return show_change(replace(image, heads, next, s, key, value, at, words));
+        return show_change(
+            stdout,
+            replace(image, heads, next, s, key, value, at, words),
+        );
     }
     if name == REMOVE {
-        return show_change(remove(image, heads, next, s, key, at, words));
+        return show_change(stdout, remove(image, heads, next, s, key, at, words));
     }
-    step_told(take_step(image, heads, next, s, name, key, quantity, at, words))
+    step_told(
+        stdout,
+        take_step(image, heads, next, s, name, key, quantity, at, words),
+    )
 }
 
 // The set after such a call.
-fn call_case(set: Set, name: u64, n: [u64; 5]) -> Set {
+fn call_case(stdout: Stdout, set: Set, name: u64, n: [u64; 5]) -> Set {
     let image = set.image;
     let mut heads = set.heads;
     let mut next = set.next;
@@ -51,9 +60,10 @@ fn call_case(set: Set, name: u64, n: [u64; 5]) -> Set {
     let i = fronts.image;
     let h = fronts.heads;
     let k = fronts.next;
-    let v = io::count((n[2] % 82) as isize, &bytes);
+    let v = bytes_of((n[2] % 82) as usize, &bytes);
     let s = set.state;
     let state = call_or_step(
+        stdout,
         &image[..i],
         &mut heads[..h],
         &mut next[..k],
@@ -82,13 +92,13 @@ fn taken(name: u64, before: State, after: State) -> u64 {
     name
 }
 
-pub fn run_change(set: Set, name: u64, n: [u64; 5]) -> Set {
-    let mut after = call_case(set, name, n);
+pub fn run_change(stdout: Stdout, set: Set, name: u64, n: [u64; 5]) -> Set {
+    let mut after = call_case(stdout, set, name, n);
     let s = after.state;
-    show::state(s);
+    show::state(stdout, s);
     let heads = after.heads;
     let next = after.next;
-    show_index(&heads, &next);
+    show_index(stdout, &heads, &next);
     let book = set.book;
     let before = set.state;
     after.book = handed_out(book, taken(name, before, s), n[2], open_of(set, n[1]));

@@ -1,17 +1,18 @@
 // The calls on the image without a key: format, recover and the plays.
-ghost use Rattle.io.specs.Counts.{IsPrefixLen};
+ghost use Rattle.show.specs.Fronts.{IsPrefixLen};
 
 use crate::set::{Set, lent, show_index};
 use crate::step::played_in;
 use orderset::{Invalidations, Recovered, format, play, play_list, recover};
 use show::fronts::values_of;
+use std::io::Stdout;
 use words_code::{lesser, read_word};
 
-pub fn format_case(set: Set) -> Set {
+pub fn format_case(stdout: Stdout, set: Set) -> Set {
     let mut image = set.image;
     let fronts = lent(set);
     let i = fronts.image;
-    show::formatted(format(&mut image[..i], 1));
+    show::formatted(stdout, format(&mut image[..i], 1));
     let mut after = set;
     after.image = image;
     after
@@ -25,7 +26,7 @@ fn invalidations_after(r: Recovered, given: Invalidations, before: Invalidations
     }
 }
 
-pub fn recover_case(set: Set) -> Set {
+pub fn recover_case(stdout: Stdout, set: Set) -> Set {
     let image = set.image;
     let mut heads = set.heads;
     let mut next = set.next;
@@ -36,9 +37,9 @@ pub fn recover_case(set: Set) -> Set {
     let answer = recover(&image[..i], &mut heads[..h], &mut next[..k]);
     let r = answer.recovered;
     let given = answer.invalidations;
-    show::recovered(r);
-    show::invalidations(given);
-    show_index(&heads, &next);
+    show::recovered(stdout, r);
+    show::invalidations(stdout, given);
+    show_index(stdout, &heads, &next);
     let s = set.state;
     let state = show::state_after(r, s);
     let before = set.invalidations;
@@ -76,7 +77,7 @@ fn in_both(n: usize, at: &[u32], value: &[u64]) -> usize
     n
 }
 
-pub fn opened(set: Set, n: [u64; 5]) -> Set {
+pub fn opened(stdout: Stdout, set: Set, n: [u64; 5]) -> Set {
     let before = set.image;
     let mut image = set.image;
     let invalidations = set.invalidations;
@@ -87,24 +88,24 @@ pub fn opened(set: Set, n: [u64; 5]) -> Set {
     let fronts = lent(set);
     let i = fronts.image;
     let answer = play_list(&mut image[..i], &at[..count], &value[..count]);
-    show::number(answer as u64);
-    show::text(b" changed");
-    show::number(count_differing_bytes(&image, &before));
+    show::number(stdout, answer as u64);
+    show::text(stdout, b" changed");
+    show::number(stdout, count_differing_bytes(&image, &before));
     let mut after = set;
     after.image = image;
     after
 }
 
-pub fn play_counts(set: Set, n: [u64; 5]) -> Set {
+pub fn play_counts(stdout: Stdout, set: Set, n: [u64; 5]) -> Set {
     let before = set.image;
     let mut image = set.image;
     let stores = set.stores;
     let fronts = lent(set);
     let i = fronts.image;
     let answer = play(&mut image[..i], stores, n[1] as usize, n[2] as usize);
-    show::number(answer as u64);
-    show::text(b" changed");
-    show::number(count_differing_bytes(&image, &before));
+    show::number(stdout, answer as u64);
+    show::text(stdout, b" changed");
+    show::number(stdout, count_differing_bytes(&image, &before));
     let book = set.book;
     let mut after = set;
     after.image = image;
@@ -112,14 +113,14 @@ pub fn play_counts(set: Set, n: [u64; 5]) -> Set {
     after
 }
 
-pub fn listed(set: Set, n: [u64; 5]) -> Set {
+pub fn listed(stdout: Stdout, set: Set, n: [u64; 5]) -> Set {
     let mut image = set.image;
     let fronts = lent(set);
     let i = fronts.image;
     let at = [(n[1] % 65536) as u32, (n[2] % 65536) as u32];
     let value = [513, 18446744073709551615];
     let v = values_of(n[3] as usize, &value);
-    show::number(play_list(&mut image[..i], &at, &value[..v]) as u64);
+    show::number(stdout, play_list(&mut image[..i], &at, &value[..v]) as u64);
     let mut after = set;
     after.image = image;
     after
@@ -132,7 +133,7 @@ fn case_word_or_zero(image: &[u8; 640], i: usize) -> u64 {
     0
 }
 
-pub fn show_case_word(set: Set, n: [u64; 5]) {
+pub fn show_case_word(stdout: Stdout, set: Set, n: [u64; 5]) {
     let image = set.image;
-    show::number(case_word_or_zero(&image, n[1] as usize));
+    show::number(stdout, case_word_or_zero(&image, n[1] as usize));
 }

@@ -1,6 +1,8 @@
 // The calls that only read: locate and get.
 use crate::set::{Set, lent};
 use orderset::{Got, Located, Outcome, get, locate};
+use show::fronts::bytes_of;
+use std::io::Stdout;
 use words_code::read_word;
 
 // What locate and get answered, and the 80 bytes of which get was lent the front.
@@ -20,7 +22,7 @@ pub fn fetch(set: Set, key: u64, size: u64) -> Fetched {
     let h = fronts.heads;
     let k = fronts.next;
     let mut out = [9u8; 80];
-    let o = io::count((size % 81) as isize, &out);
+    let o = bytes_of((size % 81) as usize, &out);
     let a = &image[..i];
     let b = &heads[..h];
     let c = &next[..k];
@@ -31,27 +33,27 @@ pub fn fetch(set: Set, key: u64, size: u64) -> Fetched {
     Fetched { located, got, out }
 }
 
-fn show_located(located: Located) {
+fn show_located(stdout: Stdout, located: Located) {
     match located {
-        Located::At { slot, version } => show::outcome(Outcome::Stored { slot, version }),
-        Located::Absent => show::outcome(Outcome::Absent),
-        Located::Refused(number) => show::outcome(Outcome::Refused(number)),
+        Located::At { slot, version } => show::outcome(stdout, Outcome::Stored { slot, version }),
+        Located::Absent => show::outcome(stdout, Outcome::Absent),
+        Located::Refused(number) => show::outcome(stdout, Outcome::Refused(number)),
     }
 }
 
-fn show_fetched_words(bytes: &[u8; 80]) {
-    show::number(read_word(bytes, 0));
-    show::number(read_word(bytes, 1));
-    show::number(read_word(bytes, 2));
-    show::number(read_word(bytes, 9));
+fn show_fetched_words(stdout: Stdout, bytes: &[u8; 80]) {
+    show::number(stdout, read_word(bytes, 0));
+    show::number(stdout, read_word(bytes, 1));
+    show::number(stdout, read_word(bytes, 2));
+    show::number(stdout, read_word(bytes, 9));
 }
 
-pub fn show_locate_and_get(set: Set, n: [u64; 5]) {
+pub fn show_locate_and_get(stdout: Stdout, set: Set, n: [u64; 5]) {
     let r = fetch(set, n[1], n[2]);
     let located = r.located;
-    show_located(located);
+    show_located(stdout, located);
     let got = r.got;
-    show::got(got);
+    show::got(stdout, got);
     let out = r.out;
-    show_fetched_words(&out);
+    show_fetched_words(stdout, &out);
 }

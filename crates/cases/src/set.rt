@@ -1,11 +1,12 @@
 // The set that the lines work on: an image of at most four slots, its index of at most two heads, its state, the stores
 // handed out last and the invalidating stores. Any number of it may be set to any other, and a call may be lent less
 // than all of it.
-ghost use Rattle.io.specs.Counts.{IsPrefixLen};
+ghost use Rattle.show.specs.Fronts.{IsPrefixLen};
 
 use crate::names::{BYTE, INDEX, LEND, STATE, STORE};
 use orderset::{Invalidations, State, Stores};
 use show::lines::low_half;
+use std::io::Stdout;
 use words_code::lesser;
 
 // How many bytes, heads and next numbers a call is lent, the first ones of each.
@@ -140,22 +141,22 @@ pub fn set_up_case(set: Set, name: u64, n: [u64; 5]) -> Set {
     after
 }
 
-pub fn show_index(heads: &[u32; 2], next: &[u32; 5]) {
-    show::text(b" heads");
-    show::numbers(heads);
-    show::text(b" next");
-    show::numbers(next);
+pub fn show_index(stdout: Stdout, heads: &[u32; 2], next: &[u32; 5]) {
+    show::text(stdout, b" heads");
+    show::numbers(stdout, heads);
+    show::text(stdout, b" next");
+    show::numbers(stdout, next);
 }
 
-fn show_pairs(at: &[u32; 16], value: &[u64; 16]) {
-    show::numbers(at);
-    show::text(b"\n ");
-    show::values(value);
+fn show_pairs(stdout: Stdout, at: &[u32; 16], value: &[u64; 16]) {
+    show::numbers(stdout, at);
+    show::text(stdout, b"\n ");
+    show::values(stdout, value);
 }
 
-pub fn show_stores(set: Set) {
+pub fn show_stores(stdout: Stdout, set: Set) {
     let stores = set.stores;
     let at = stores.at;
     let value = stores.value;
-    show_pairs(&at, &value);
+    show_pairs(stdout, &at, &value);
 }

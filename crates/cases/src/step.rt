@@ -4,18 +4,22 @@ use crate::read::fetch;
 use crate::set::{Book, Set};
 use book_code::{BookChange, BookOutcome, acknowledge, fill, new, withdraw};
 use orderset::{Outcome, State};
+use std::io::Stdout;
 use words_code::read_word;
 
 // The state after a step, whose answer is printed.
-pub fn step_told(r: BookChange) -> State {
+pub fn step_told(stdout: Stdout, r: BookChange) -> State {
     let outcome = r.outcome;
     match outcome {
-        BookOutcome::Stored { slot, version } => show::outcome(Outcome::Stored { slot, version }),
+        BookOutcome::Stored { slot, version } => show::outcome(
+            stdout,
+            Outcome::Stored { slot, version },
+        ),
         BookOutcome::Already { slot, version } => {
-            show::text(b" already");
-            show::outcome(Outcome::Stored { slot, version });
+            show::text(stdout, b" already");
+            show::outcome(stdout, Outcome::Stored { slot, version });
         }
-        BookOutcome::Refused(number) => show::outcome(Outcome::Refused(number)),
+        BookOutcome::Refused(number) => show::outcome(stdout, Outcome::Refused(number)),
     }
     let s = r.state;
     s
@@ -116,12 +120,12 @@ pub fn played_in(book: Book, answer: u32, a: u64, b: u64) -> Book {
     after
 }
 
-pub fn show_total(set: Set) {
+pub fn show_total(stdout: Stdout, set: Set) {
     let book = set.book;
-    show::number(book.ordered);
-    show::number(book.filled);
-    show::number(book.withdrawn);
+    show::number(stdout, book.ordered);
+    show::number(stdout, book.filled);
+    show::number(stdout, book.withdrawn);
     let low = sum(open_of(set, 1), open_of(set, 2));
     let high = sum(open_of(set, 3), open_of(set, 4));
-    show::number(sum(low, high));
+    show::number(stdout, sum(low, high));
 }

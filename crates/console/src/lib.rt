@@ -1,11 +1,14 @@
 // A session from standard input to standard output, of any size; and the output of one that is read byte by byte.
+#![tactic(auto)]
+
 ghost use Rattle.std.specs.Prelude.{◌≡◌, true, false, not, cond, ◌≤◌, eqb, length};
 ghost use Rattle.session.specs.Step.{step_result};
 ghost use Rattle.session.specs.Stream.{stream_end, lacks_room, emptied, after_read};
 
-use libc::{STDIN_FILENO, STDOUT_FILENO};
 use session::Progress;
 use session_stream_code::stream::{end_input, open_stream, take_byte};
+use show::input::read_some;
+use std::io::{Stdin, Stdout};
 
 // Where the session stands, whether the input may have more, and whether every write so far succeeded.
 #[derive(Clone, Copy)]
@@ -36,7 +39,7 @@ fn after_write(p: Progress, written: bool) -> Status
 }
 
 // The stored output is written; whether it can be is the system's, and nothing more is read or written where it cannot.
-pub fn flush(p: Progress, out: &[u8]) -> Status
+pub fn flush(stdout: Stdout, p: Progress, out: &[u8]) -> Status
     ensures progress { result.progress ≡ emptied p }
     ensures reading { result.reading ≡ result.written }
     ensures inside { result.written ≡ true → p.at ≤ length out.now }
@@ -45,21 +48,21 @@ pub fn flush(p: Progress, out: &[u8]) -> Status
     if out.len() < at {
         return after_write(p, false);
     }
-    after_write(p, io::write_all(STDOUT_FILENO, &out[..at]))
+    after_write(p, show::written(stdout, &out[..at]))
 }
 
 // After a byte: the output is written before a further line might lack room, and only then.
-pub fn after_byte(p: Progress, out: &[u8]) -> Status
+pub fn after_byte(stdout: Stdout, p: Progress, out: &[u8]) -> Status
     ensures progress { result.progress ≡ cond (lacks_room p (length out.now)) (emptied p) p }
     ensures reading { result.reading ≡ result.written }
     ensures room { lacks_room p (length out.now) ≡ false → result.written ≡ true }
 {
     let at = p.at;
     if out.len() < at {
-        return flush(p, out);
+        return flush(stdout, p, out);
     }
     if out.len() - at < 64 {
-        return flush(p, out);
+        return flush(stdout, p, out);
     }
     Status {
         progress: p,
@@ -71,6 +74,7 @@ pub fn after_byte(p: Progress, out: &[u8]) -> Status
 // The bytes of one read, up to a write that fails, and the output of all of them is written; where there are no bytes,
 // the input has ended.
 fn take_bytes(
+    stdout: Stdout,
     t: Status,
     input: &[u8],
     image: &mut [u8],
@@ -91,13 +95,13 @@ fn take_bytes(
         i += 1;
         let p = u.progress;
         let q = take_byte(p, byte, image, heads, next, out);
-        u = after_byte(q, out);
+        u = after_byte(stdout, q, out);
         if !u.written {
             return u;
         }
     }
     let p = u.progress;
-    let done = flush(p, out);
+    let done = flush(stdout, p, out);
     let after = done.progress;
     Status {
         progress: after,
@@ -108,7 +112,7 @@ fn take_bytes(
 
 // The session of the whole input: a line of output for each line. The reads are counted, since nothing says that the
 // input ends.
-pub fn run_session() {
+pub fn run_session(stdin: Stdin, stdout: Stdout) {
     let mut input = [0u8; 4096];
     let mut out = [0u8; 4096];
     let mut image = [0u8; 65536];
@@ -121,14 +125,21 @@ pub fn run_session() {
     };
     let mut reads = u64::MAX;
     while reads > 0 && t.reading && t.written {
-        let got = libc::read(STDIN_FILENO, &mut input);
-        let n = io::count(got, &input);
-        t = take_bytes(t, &input[..n], &mut image, &mut heads, &mut next, &mut out);
+        let n = read_some(stdin, &mut input);
+        t = take_bytes(
+            stdout,
+            t,
+            &input[..n],
+            &mut image,
+            &mut heads,
+            &mut next,
+            &mut out,
+        );
         reads -= 1;
     }
     if t.written {
         let p = t.progress;
         let last = end_input(p, &mut image, &mut heads, &mut next, &mut out);
-        flush(last, &out);
+        flush(stdout, last, &out);
     }
 }

@@ -1,5 +1,7 @@
 // Power cuts tried on paper: types, definitions and laws.
 
+#![tactic(auto)]
+
 // The answer: how many of the 81 pairs of counts leave the earlier map and how many the later one, or a refusal.
 #[derive(Clone, Copy)]
 pub enum CutCounts {

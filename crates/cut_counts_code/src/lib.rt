@@ -1,4 +1,7 @@
 // Power cuts tried on paper: all 81 pairs of counts of sixteen stores are played, recovered and compared.
+
+#![tactic(auto)]
+
 ghost use Rattle.std.specs.Prelude.{◌≡◌};
 ghost use Rattle.layout.specs.Record.{Layout};
 ghost use Rattle.cut_counts.specs.CutCount.{cut_count_end, cut_count_result};

@@ -1,7 +1,10 @@
 // Recovers an image of three slots and one of nine, as they are and with one or two bytes changed, and prints the
 // answer, the invalidating stores and the index each time. Every refusal of recovery is among them, with the slot that
 // it names.
+#![tactic(auto)]
+
 use orderset::{Recovered, recover};
+use std::io::Stdout;
 
 // Slot 1: a put of key 7, version 2, one byte. Slot 2: its remove, version 4. Slot 3: a put of key 8, version 3, no
 // bytes.
@@ -33,24 +36,24 @@ fn set_byte(image: &mut [u8], place: usize, byte: u8) {
 }
 
 // The slot that a refusal names.
-fn show_slot(r: Recovered) {
+fn show_slot(stdout: Stdout, r: Recovered) {
     match r {
         Recovered::Rebuilt(_) => {}
         Recovered::Refused { number: _, slot } => {
-            show::text(b" slot");
-            show::number(slot as u64);
+            show::text(stdout, b" slot");
+            show::number(stdout, slot as u64);
         }
     }
 }
 
-fn show_recover(image: &[u8], heads: &mut [u32], next: &mut [u32]) {
+fn show_recover(stdout: Stdout, image: &[u8], heads: &mut [u32], next: &mut [u32]) {
     let answer = recover(image, heads, next);
     let r = answer.recovered;
-    show::recovered(r);
-    show_slot(r);
+    show::recovered(stdout, r);
+    show_slot(stdout, r);
     let stores = answer.invalidations;
-    show::invalidations(stores);
-    show::index(heads, next);
+    show::invalidations(stdout, stores);
+    show::index(stdout, heads, next);
 }
 
 fn change(image: &mut [u8], place: usize, byte: u8, second: usize, other: u8) {
@@ -59,50 +62,57 @@ fn change(image: &mut [u8], place: usize, byte: u8, second: usize, other: u8) {
 }
 
 // Recovery of a changed image, with two heads and an index that held other numbers.
-fn recover_changed(image: &mut [u8], place: usize, byte: u8, second: usize, other: u8) {
+fn recover_changed(
+    stdout: Stdout,
+    image: &mut [u8],
+    place: usize,
+    byte: u8,
+    second: usize,
+    other: u8,
+) {
     change(image, place, byte, second, other);
     let mut heads = [9u32, 9];
     let mut next = [9u32, 9, 9, 9];
-    show_recover(image, &mut heads, &mut next);
+    show_recover(stdout, image, &mut heads, &mut next);
 }
 
-fn label(place: usize, byte: u8, second: usize, other: u8) {
-    show::text(b"byte");
-    show::number(place as u64);
-    show::number(byte as u64);
-    show::text(b" byte");
-    show::number(second as u64);
-    show::number(other as u64);
+fn label(stdout: Stdout, place: usize, byte: u8, second: usize, other: u8) {
+    show::text(stdout, b"byte");
+    show::number(stdout, place as u64);
+    show::number(stdout, byte as u64);
+    show::text(stdout, b" byte");
+    show::number(stdout, second as u64);
+    show::number(stdout, other as u64);
 }
 
-fn with(place: usize, byte: u8, second: usize, other: u8) {
-    label(place, byte, second, other);
+fn with(stdout: Stdout, place: usize, byte: u8, second: usize, other: u8) {
+    label(stdout, place, byte, second, other);
     let mut a = image();
-    recover_changed(&mut a, place, byte, second, other);
+    recover_changed(stdout, &mut a, place, byte, second, other);
 }
 
-fn short_image() {
-    show::text(b"511 bytes:");
+fn short_image(stdout: Stdout) {
+    show::text(stdout, b"511 bytes:");
     let a = [0u8; 511];
     let mut heads = [9u32];
     let mut next = [9u32, 9, 9, 9];
-    show_recover(&a, &mut heads, &mut next);
+    show_recover(stdout, &a, &mut heads, &mut next);
 }
 
-fn no_head() {
-    show::text(b"no head:");
+fn no_head(stdout: Stdout) {
+    show::text(stdout, b"no head:");
     let a = image();
     let mut heads = [9u32; 0];
     let mut next = [9u32, 9, 9, 9];
-    show_recover(&a, &mut heads, &mut next);
+    show_recover(stdout, &a, &mut heads, &mut next);
 }
 
-fn short_next() {
-    show::text(b"next of 3:");
+fn short_next(stdout: Stdout) {
+    show::text(stdout, b"next of 3:");
     let a = image();
     let mut heads = [9u32];
     let mut next = [9u32, 9, 9];
-    show_recover(&a, &mut heads, &mut next);
+    show_recover(stdout, &a, &mut heads, &mut next);
 }
 
 // Nine slots, all broken: the mark of line A is 1. Without that, slots 1 to 8 are empty, and slot 9 is a put of key 9,
@@ -128,58 +138,59 @@ fn nine_slots() -> [u8; 1280] {
     a
 }
 
-fn nine_with(place: usize, byte: u8, second: usize, other: u8) {
-    show::text(b"nine slots, ");
-    label(place, byte, second, other);
+fn nine_with(stdout: Stdout, place: usize, byte: u8, second: usize, other: u8) {
+    show::text(stdout, b"nine slots, ");
+    label(stdout, place, byte, second, other);
     let mut a = nine_slots();
     change(&mut a, place, byte, second, other);
     let mut heads = [9u32];
     let mut next = [9u32; 10];
-    show_recover(&a, &mut heads, &mut next);
+    show_recover(stdout, &a, &mut heads, &mut next);
 }
 
-fn main() {
-    short_image();
-    no_head();
-    short_next();
-    with(511, 0, 511, 0);
-    with(0, 0, 511, 0);
-    with(0, 2, 511, 0);
-    with(8, 2, 511, 0);
-    with(56, 1, 511, 0);
-    with(64, 1, 511, 0);
-    with(128, 2, 511, 0);
-    with(384, 1, 448, 3);
-    with(144, 3, 511, 0);
-    with(146, 1, 511, 0);
-    with(146, 9, 511, 0);
-    with(147, 1, 511, 0);
-    with(146, 8, 511, 0);
-    with(274, 8, 511, 0);
-    with(274, 2, 402, 2);
-    with(145, 81, 511, 0);
-    with(153, 1, 511, 0);
-    with(200, 1, 511, 0);
-    with(273, 1, 511, 0);
-    with(400, 0, 511, 0);
-    with(146, 1, 144, 3);
-    with(144, 3, 145, 81);
-    with(145, 81, 153, 1);
-    with(153, 1, 274, 1);
-    with(274, 1, 401, 1);
-    with(272, 3, 312, 10);
-    with(440, 8, 504, 8);
-    with(440, 4, 504, 4);
-    with(272, 1, 264, 9);
-    with(312, 10, 511, 0);
-    with(128, 1, 511, 0);
-    with(312, 10, 440, 10);
-    with(184, 6, 312, 10);
-    with(312, 0, 376, 0);
-    with(312, 0, 144, 9);
-    with(184, 5, 248, 5);
-    nine_with(1279, 0, 1279, 0);
-    nine_with(1152, 0, 1279, 0);
-    nine_with(1152, 0, 1170, 0);
-    nine_with(1152, 0, 1024, 0);
+fn main(rt: HostRuntime) {
+    let stdout = rt.stdout();
+    short_image(stdout);
+    no_head(stdout);
+    short_next(stdout);
+    with(stdout, 511, 0, 511, 0);
+    with(stdout, 0, 0, 511, 0);
+    with(stdout, 0, 2, 511, 0);
+    with(stdout, 8, 2, 511, 0);
+    with(stdout, 56, 1, 511, 0);
+    with(stdout, 64, 1, 511, 0);
+    with(stdout, 128, 2, 511, 0);
+    with(stdout, 384, 1, 448, 3);
+    with(stdout, 144, 3, 511, 0);
+    with(stdout, 146, 1, 511, 0);
+    with(stdout, 146, 9, 511, 0);
+    with(stdout, 147, 1, 511, 0);
+    with(stdout, 146, 8, 511, 0);
+    with(stdout, 274, 8, 511, 0);
+    with(stdout, 274, 2, 402, 2);
+    with(stdout, 145, 81, 511, 0);
+    with(stdout, 153, 1, 511, 0);
+    with(stdout, 200, 1, 511, 0);
+    with(stdout, 273, 1, 511, 0);
+    with(stdout, 400, 0, 511, 0);
+    with(stdout, 146, 1, 144, 3);
+    with(stdout, 144, 3, 145, 81);
+    with(stdout, 145, 81, 153, 1);
+    with(stdout, 153, 1, 274, 1);
+    with(stdout, 274, 1, 401, 1);
+    with(stdout, 272, 3, 312, 10);
+    with(stdout, 440, 8, 504, 8);
+    with(stdout, 440, 4, 504, 4);
+    with(stdout, 272, 1, 264, 9);
+    with(stdout, 312, 10, 511, 0);
+    with(stdout, 128, 1, 511, 0);
+    with(stdout, 312, 10, 440, 10);
+    with(stdout, 184, 6, 312, 10);
+    with(stdout, 312, 0, 376, 0);
+    with(stdout, 312, 0, 144, 9);
+    with(stdout, 184, 5, 248, 5);
+    nine_with(stdout, 1279, 0, 1279, 0);
+    nine_with(stdout, 1152, 0, 1279, 0);
+    nine_with(stdout, 1152, 0, 1170, 0);
+    nine_with(stdout, 1152, 0, 1024, 0);
 }

@@ -1,1 +1,3 @@
 // What the functions for C return and leave in lent numbers: definitions and laws.
+
+#![tactic(auto)]

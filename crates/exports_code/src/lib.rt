@@ -1,4 +1,7 @@
 // The state, refusals, plays and formats by lent numbers, for both layouts.
+
+#![tactic(auto)]
+
 pub mod format;
 pub mod play;
 pub mod refusal;

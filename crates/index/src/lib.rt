@@ -1,5 +1,7 @@
 // The index: chains of slots in two lent slices of numbers, and a state beside them.
 
+#![tactic(auto)]
+
 // The reuse chain's first and last slot, the live count, the newest slot, one of the highest valid version, and the
 // next version. To the calls for any index the newest slot is a hint, by which they find out faster which slots they
 // may take; the calls for the owner of an index go by it.

@@ -1,5 +1,7 @@
 // Lines, slots, the header and the fields of a record: types, definitions and laws.
 
+#![tactic(auto)]
+
 // What a slot's marks and stamps say of it: valid with its version, empty, or broken with the highest version on a
 // whole line.
 #[derive(Clone, Copy)]

@@ -1,2 +1,5 @@
 // The fields of a record, read from the words of an image.
+
+#![tactic(auto)]
+
 pub mod fields;

@@ -1,3 +1,6 @@
 // Lines and slots.
+
+#![tactic(auto)]
+
 pub mod line;
 pub mod slot;

@@ -1,1 +1,3 @@
 // What is asked of a single line: definitions and laws.
+
+#![tactic(auto)]

@@ -1,5 +1,8 @@
 // What a sender asks of a single line, lent as 64 bytes. Each answer is put as a word into 8 lent bytes; returned is 0
 // or the refusal.
+
+#![tactic(auto)]
+
 ghost use Rattle.std.specs.Prelude.{◌≡◌, cond};
 ghost use Rattle.layout.specs.Line.{whole};
 ghost use Rattle.linequery.specs.Query.{slice_fault, next_fault, query_end, whole_query, version_query, first_query, last_query};

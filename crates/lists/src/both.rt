@@ -1,6 +1,7 @@
 // What the lines work on: two sides, each an image with its index or a log's area. The first is changed by the forms
 // with number slices, the second by those with a list of stores.
 use orderset::{Action, BasketItem, Mode, State, Store};
+use std::io::Stdout;
 
 // The bytes, with an index and its state where they are an image.
 #[derive(Clone, Copy)]
@@ -110,23 +111,23 @@ fn first_other(at: [u32; 48], value: [u64; 48], stores: [Store; 48]) -> usize {
 }
 
 // In how many first entries the lists are equal.
-pub fn show_equal(numbers: Numbers, stores: [Store; 48]) {
+pub fn show_equal(stdout: Stdout, numbers: Numbers, stores: [Store; 48]) {
     let at = numbers.at;
     let value = numbers.value;
-    show::text(b" equal");
-    show::number(first_other(at, value, stores) as u64);
+    show::text(stdout, b" equal");
+    show::number(stdout, first_other(at, value, stores) as u64);
 }
 
 // One entry of the lists: word number and value of each form.
-pub fn show_entry(both: Both, i: usize) {
+pub fn show_entry(stdout: Stdout, both: Both, i: usize) {
     let numbers = both.numbers;
     let stores = both.stores;
     if i < 48 {
         let store = stores[i];
-        show::number(numbers.at[i] as u64);
-        show::number(numbers.value[i]);
-        show::number(store.word as u64);
-        show::number(store.value);
+        show::number(stdout, numbers.at[i] as u64);
+        show::number(stdout, numbers.value[i]);
+        show::number(stdout, store.word as u64);
+        show::number(stdout, store.value);
     }
 }
 

@@ -3,6 +3,8 @@
 // another name is only printed. Of a call both answers are printed, the first form's first, and then how many first
 // entries of the lists, of 48, or after a play how many first bytes, of 2,176, are equal; after a basket both states
 // and indexes.
+#![tactic(auto)]
+
 mod area;
 mod both;
 mod names;
@@ -13,7 +15,9 @@ use both::{Both, show_entry, start_lists};
 use names::{APPEND, AREA, BASKET, ENTRY, FORMAT, INSERT, KEEP, PLAY, RECOVER, REMOVE, REPLACE};
 use orderset::{Action, Mode};
 use set::{add_item_to_both, format_both, kept, play_both, run_both_baskets};
+use show::input::read_full;
 use show::lines::{parse_numbers, until};
+use std::io::Stdout;
 use words_code::padded_word;
 
 // A line that names an item of a basket; another changes nothing.
@@ -30,56 +34,56 @@ fn prepare_both(both: Both, name: u64, n: [u64; 5]) -> Both {
     both
 }
 
-fn run_list_call(both: Both, name: u64, n: [u64; 5]) -> Both {
+fn run_list_call(stdout: Stdout, both: Both, name: u64, n: [u64; 5]) -> Both {
     if name == FORMAT {
-        return format_both(both, n);
+        return format_both(stdout, both, n);
     }
     if name == AREA {
         return area(both, n[1]);
     }
     if name == BASKET {
-        return run_both_baskets(both);
+        return run_both_baskets(stdout, both);
     }
     if name == APPEND {
-        return append_both(both, n);
+        return append_both(stdout, both, n);
     }
     if name == RECOVER {
-        return recover_both(both);
+        return recover_both(stdout, both);
     }
     if name == PLAY {
-        return play_both(both);
+        return play_both(stdout, both);
     }
     if name == KEEP {
         return kept(both, n[1] as usize);
     }
     if name == ENTRY {
-        show_entry(both, n[1] as usize);
+        show_entry(stdout, both, n[1] as usize);
         return both;
     }
     prepare_both(both, name, n)
 }
 
-fn run_list_line(both: Both, line: &[u8]) -> Both {
-    show::text(line);
+fn run_list_line(stdout: Stdout, both: Both, line: &[u8]) -> Both {
+    show::text(stdout, line);
     let end = until(line, 0, 97);
     let name = padded_word(&line[..end], 0);
-    let after = run_list_call(both, name, parse_numbers(line));
-    show::text(b"\n");
+    let after = run_list_call(stdout, both, name, parse_numbers(line));
+    show::text(stdout, b"\n");
     after
 }
 
-fn run_lists(input: &[u8]) {
+fn run_lists(stdout: Stdout, input: &[u8]) {
     let mut both = start_lists();
     let mut at = 0;
     while at < input.len() {
         let end = until(input, at, 11);
-        both = run_list_line(both, &input[at..end]);
+        both = run_list_line(stdout, both, &input[at..end]);
         at = end + 1;
     }
 }
 
-fn main() {
+fn main(rt: HostRuntime) {
     let mut input = [0u8; 4096];
-    let n = io::read_full(libc::STDIN_FILENO, &mut input);
-    run_lists(&input[..n]);
+    let n = read_full(rt.stdin(), &mut input);
+    run_lists(rt.stdout(), &input[..n]);
 }

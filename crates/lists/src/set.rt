@@ -5,7 +5,8 @@ use orderset::{
     Action, BasketAnswer, BasketItem, BasketOutcome, RecoverAnswer, State, Store, basket, basket2,
     format, play_list, recover, recover2,
 };
-use show::fronts::{numbers_of, values_of};
+use show::fronts::{bytes_of, numbers_of, values_of};
+use std::io::Stdout;
 
 fn recovered_in(layout: u64, image: &[u8], heads: &mut [u32], next: &mut [u32]) -> RecoverAnswer {
     if layout == 2 {
@@ -15,25 +16,25 @@ fn recovered_in(layout: u64, image: &[u8], heads: &mut [u32], next: &mut [u32]) 
 }
 
 // A formatted image of this size.
-fn fresh(size: usize, layout: u64) -> [u8; 2176] {
+fn fresh(stdout: Stdout, size: usize, layout: u64) -> [u8; 2176] {
     let mut bytes = [0u8; 2176];
-    let n = io::count((size % 2177) as isize, &bytes);
-    show::formatted(format(&mut bytes[..n], layout));
+    let n = bytes_of(size % 2177, &bytes);
+    show::formatted(stdout, format(&mut bytes[..n], layout));
     bytes
 }
 
 // The side with the index that recovery leaves.
-fn indexed(side: Side, size: usize, layout: u64) -> Side {
+fn indexed(stdout: Stdout, side: Side, size: usize, layout: u64) -> Side {
     let bytes = side.bytes;
     let mut heads = side.heads;
     let mut next = side.next;
     let s = side.state;
-    let i = io::count((size % 2177) as isize, &bytes);
+    let i = bytes_of(size % 2177, &bytes);
     let h = numbers_of(2, &heads);
     let k = numbers_of(size / 128, &next);
     let answer = recovered_in(layout, &bytes[..i], &mut heads[..h], &mut next[..k]);
     let r = answer.recovered;
-    show::recovered(r);
+    show::recovered(stdout, r);
     let state = show::state_after(r, s);
     Side {
         bytes,
@@ -43,13 +44,13 @@ fn indexed(side: Side, size: usize, layout: u64) -> Side {
     }
 }
 
-pub fn format_both(both: Both, n: [u64; 5]) -> Both {
+pub fn format_both(stdout: Stdout, both: Both, n: [u64; 5]) -> Both {
     let slots = (n[1] % 17) as usize;
     let size = 128 * (slots + 1);
-    let bytes = fresh(size, n[2]);
+    let bytes = fresh(stdout, size, n[2]);
     let mut side = empty();
     side.bytes = bytes;
-    let image = indexed(side, size, n[2]);
+    let image = indexed(stdout, side, size, n[2]);
     let mut after = both;
     after.first = image;
     after.second = image;
@@ -89,19 +90,19 @@ pub fn add_item_to_both(both: Both, action: Action, n: [u64; 5]) -> Both {
 }
 
 // The answer is printed; how many stores were handed out.
-fn show_basket_form(r: BasketAnswer, count: usize) -> usize {
+fn show_basket_form(stdout: Stdout, r: BasketAnswer, count: usize) -> usize {
     let outcome = r.outcome;
     match outcome {
         BasketOutcome::Stored { version } => {
-            show::text(b" ok");
-            show::number(version);
+            show::text(stdout, b" ok");
+            show::number(stdout, version);
             let slots = r.slots;
             let n = numbers_of(count % 4, &slots);
-            show::numbers(&slots[..n]);
+            show::numbers(stdout, &slots[..n]);
             16 * (count % 4)
         }
         BasketOutcome::Refused(number) => {
-            show::refused(number);
+            show::refused(stdout, number);
             0
         }
     }
@@ -150,7 +151,14 @@ struct ByNumbers {
     count: usize,
 }
 
-fn by_numbers(side: Side, size: usize, layout: u64, named: Named, numbers: Numbers) -> ByNumbers {
+fn by_numbers(
+    stdout: Stdout,
+    side: Side,
+    size: usize,
+    layout: u64,
+    named: Named,
+    numbers: Numbers,
+) -> ByNumbers {
     let bytes = side.bytes;
     let mut heads = side.heads;
     let mut next = side.next;
@@ -162,7 +170,7 @@ fn by_numbers(side: Side, size: usize, layout: u64, named: Named, numbers: Numbe
     let values = [byte; 640];
     let v = values_of(48, &value);
     let t = numbers_of(48, &at);
-    let i = io::count((size % 2177) as isize, &bytes);
+    let i = bytes_of(size % 2177, &bytes);
     let h = numbers_of(2, &heads);
     let k = numbers_of(size / 128, &next);
     let r = basket_by_layout(
@@ -177,7 +185,7 @@ fn by_numbers(side: Side, size: usize, layout: u64, named: Named, numbers: Numbe
         &mut at[..t],
         &mut value[..v],
     );
-    let count = show_basket_form(r, named.count);
+    let count = show_basket_form(stdout, r, named.count);
     let state = r.state;
     ByNumbers {
         side: Side {
@@ -198,7 +206,14 @@ struct ByList {
     stores: [Store; 48],
 }
 
-fn by_list(side: Side, size: usize, layout: u64, named: Named, stores: [Store; 48]) -> ByList {
+fn by_list(
+    stdout: Stdout,
+    side: Side,
+    size: usize,
+    layout: u64,
+    named: Named,
+    stores: [Store; 48],
+) -> ByList {
     let bytes = side.bytes;
     let mut heads = side.heads;
     let mut next = side.next;
@@ -206,7 +221,7 @@ fn by_list(side: Side, size: usize, layout: u64, named: Named, stores: [Store; 4
     let items = named.items;
     let byte = named.byte;
     let values = [byte; 640];
-    let i = io::count((size % 2177) as isize, &bytes);
+    let i = bytes_of(size % 2177, &bytes);
     let h = numbers_of(2, &heads);
     let k = numbers_of(size / 128, &next);
     let listed = basket_lent_in(
@@ -221,7 +236,7 @@ fn by_list(side: Side, size: usize, layout: u64, named: Named, stores: [Store; 4
         stores,
     );
     let r = listed.answer;
-    show_basket_form(r, named.count);
+    show_basket_form(stdout, r, named.count);
     let state = r.state;
     let list = listed.list;
     ByList {
@@ -236,34 +251,34 @@ fn by_list(side: Side, size: usize, layout: u64, named: Named, stores: [Store; 4
 }
 
 // A side's state and index, on a line of their own.
-fn show_side(side: Side) {
+fn show_side(stdout: Stdout, side: Side) {
     let state = side.state;
     let heads = side.heads;
     let next = side.next;
-    show::text(b"\n ");
-    show::state(state);
-    show::text(b" heads");
-    show::numbers(&heads);
-    show::text(b" next");
-    show::numbers(&next);
+    show::text(stdout, b"\n ");
+    show::state(stdout, state);
+    show::text(stdout, b" heads");
+    show::numbers(stdout, &heads);
+    show::text(stdout, b" next");
+    show::numbers(stdout, &next);
 }
 
 // Both answers, in how many first entries the lists are equal, and the two states and indexes.
-pub fn run_both_baskets(both: Both) -> Both {
+pub fn run_both_baskets(stdout: Stdout, both: Both) -> Both {
     let first = both.first;
     let second = both.second;
     let numbers = both.numbers;
     let stores = both.stores;
     let named = both.basket;
-    let one = by_numbers(first, both.size, both.layout, named, numbers);
-    let other = by_list(second, both.size, both.layout, named, stores);
+    let one = by_numbers(stdout, first, both.size, both.layout, named, numbers);
+    let other = by_list(stdout, second, both.size, both.layout, named, stores);
     let at = one.numbers;
     let list = other.stores;
-    show_equal(at, list);
+    show_equal(stdout, at, list);
     let left = one.side;
     let right = other.side;
-    show_side(left);
-    show_side(right);
+    show_side(stdout, left);
+    show_side(stdout, right);
     let mut after = both;
     after.first = left;
     after.second = right;
@@ -303,30 +318,33 @@ fn fill_with_last(stores: [Store; 48], count: usize) -> [Store; 48] {
     after
 }
 
-fn play_numbers(side: Side, size: usize, numbers: Numbers, count: usize) -> Side {
+fn play_numbers(stdout: Stdout, side: Side, size: usize, numbers: Numbers, count: usize) -> Side {
     let mut bytes = side.bytes;
     let at = numbers.at;
     let value = numbers.value;
-    let i = io::count((size % 2177) as isize, &bytes);
+    let i = bytes_of(size % 2177, &bytes);
     let n = numbers_of(count, &at);
     let v = values_of(count, &value);
-    show::number(play_list(&mut bytes[..i], &at[..n], &value[..v]) as u64);
+    show::number(
+        stdout,
+        play_list(&mut bytes[..i], &at[..n], &value[..v]) as u64,
+    );
     let mut after = side;
     after.bytes = bytes;
     after
 }
 
-fn play_listed(side: Side, size: usize, stores: [Store; 48]) -> Side {
+fn play_listed(stdout: Stdout, side: Side, size: usize, stores: [Store; 48]) -> Side {
     let mut bytes = side.bytes;
-    let i = io::count((size % 2177) as isize, &bytes);
-    show::number(play_stores_lent(&mut bytes[..i], stores) as u64);
+    let i = bytes_of(size % 2177, &bytes);
+    show::number(stdout, play_stores_lent(&mut bytes[..i], stores) as u64);
     let mut after = side;
     after.bytes = bytes;
     after
 }
 
 // Both answers, and in how many first bytes the two are equal.
-pub fn play_both(both: Both) -> Both {
+pub fn play_both(stdout: Stdout, both: Both) -> Both {
     if both.count == 0 {
         return both;
     }
@@ -334,12 +352,17 @@ pub fn play_both(both: Both) -> Both {
     let second = both.second;
     let numbers = both.numbers;
     let stores = both.stores;
-    let left = play_numbers(first, both.size, numbers, both.count);
-    let right = play_listed(second, both.size, fill_with_last(stores, both.count));
+    let left = play_numbers(stdout, first, both.size, numbers, both.count);
+    let right = play_listed(
+        stdout,
+        second,
+        both.size,
+        fill_with_last(stores, both.count),
+    );
     let a = left.bytes;
     let b = right.bytes;
-    show::text(b" equal");
-    show::number(first_other_byte(a, b) as u64);
+    show::text(stdout, b" equal");
+    show::number(stdout, first_other_byte(a, b) as u64);
     let mut after = both;
     after.first = left;
     after.second = right;

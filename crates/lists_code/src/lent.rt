@@ -12,8 +12,8 @@ ghost use Rattle.stores.specs.Play.{word_numbers, values as values_of, play_end,
 use calls::{BasketAnswer, BasketItem};
 use calls_basket_list_code::list::{basket_list, basket_list2};
 use index::State;
-use message_log::LogOutcome;
 use log_list_code::{append_list, recover_list};
+use message_log::LogOutcome;
 use stores::Store;
 use stores_list_code::play::play_stores;
 

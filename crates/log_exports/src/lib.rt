@@ -1,1 +1,3 @@
 // What the log's functions for C return and leave in lent numbers: definitions.
+
+#![tactic(auto)]

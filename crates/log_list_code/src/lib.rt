@@ -1,4 +1,7 @@
 // The calls of the log that put their stores into a lent list of records: append and recovery.
+
+#![tactic(auto)]
+
 mod list;
 mod made;
 

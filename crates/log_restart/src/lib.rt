@@ -1,1 +1,3 @@
 // The restart rule for the log: kills and power cuts over a cache.
+
+#![tactic(auto)]

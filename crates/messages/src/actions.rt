@@ -2,20 +2,21 @@
 use crate::lent::Log;
 use log_code::{LogOutcome, append, append_after, read, recover_log};
 use orderset::play_list;
-use show::fronts::{numbers_of, values_of};
+use show::fronts::{bytes_of, numbers_of, values_of};
+use std::io::Stdout;
 use words_code::{padded_word, read_word};
 
 // What an append or a recovery answered is printed; the count of stores.
-fn show_log_answer(handed: LogOutcome) -> usize {
+fn show_log_answer(stdout: Stdout, handed: LogOutcome) -> usize {
     match handed {
         LogOutcome::Stored { number, count } => {
-            show::text(b" ok");
-            show::number(number);
-            show::number(count as u64);
+            show::text(stdout, b" ok");
+            show::number(stdout, number);
+            show::number(stdout, count as u64);
             count
         }
         LogOutcome::Refused(k) => {
-            show::refused(k);
+            show::refused(stdout, k);
             0
         }
     }
@@ -34,18 +35,18 @@ fn message_of(byte: u64, step: u64) -> [u8; 400] {
     message
 }
 
-pub fn append_message(log: Log, n: [u64; 5]) -> Log {
+pub fn append_message(stdout: Stdout, log: Log, n: [u64; 5]) -> Log {
     let area = log.area;
     let mut at = log.at;
     let mut value = log.value;
     let lent = log.lent;
     let message = message_of(n[2], n[3]);
-    let a = io::count((lent.area % 1345) as isize, &area);
+    let a = bytes_of(lent.area % 1345, &area);
     let t = numbers_of(lent.at, &at);
     let v = values_of(lent.value, &value);
-    let m = io::count((n[1] % 401) as isize, &message);
+    let m = bytes_of((n[1] % 401) as usize, &message);
     let handed = append(&area[..a], &message[..m], &mut at[..t], &mut value[..v]);
-    let count = show_log_answer(handed);
+    let count = show_log_answer(stdout, handed);
     let mut after = log;
     after.at = at;
     after.value = value;
@@ -53,16 +54,16 @@ pub fn append_message(log: Log, n: [u64; 5]) -> Log {
     after
 }
 
-pub fn append_message_after(log: Log, n: [u64; 5]) -> Log {
+pub fn append_message_after(stdout: Stdout, log: Log, n: [u64; 5]) -> Log {
     let area = log.area;
     let mut at = log.at;
     let mut value = log.value;
     let lent = log.lent;
     let message = message_of(n[3], n[4]);
-    let a = io::count((lent.area % 1345) as isize, &area);
+    let a = bytes_of(lent.area % 1345, &area);
     let t = numbers_of(lent.at, &at);
     let v = values_of(lent.value, &value);
-    let m = io::count((n[2] % 401) as isize, &message);
+    let m = bytes_of((n[2] % 401) as usize, &message);
     let handed = append_after(
         &area[..a],
         n[1],
@@ -70,7 +71,7 @@ pub fn append_message_after(log: Log, n: [u64; 5]) -> Log {
         &mut at[..t],
         &mut value[..v],
     );
-    let count = show_log_answer(handed);
+    let count = show_log_answer(stdout, handed);
     let mut after = log;
     after.at = at;
     after.value = value;
@@ -78,16 +79,16 @@ pub fn append_message_after(log: Log, n: [u64; 5]) -> Log {
     after
 }
 
-pub fn recover_area(log: Log) -> Log {
+pub fn recover_area(stdout: Stdout, log: Log) -> Log {
     let area = log.area;
     let mut at = log.at;
     let mut value = log.value;
     let lent = log.lent;
-    let a = io::count((lent.area % 1345) as isize, &area);
+    let a = bytes_of(lent.area % 1345, &area);
     let t = numbers_of(lent.at, &at);
     let v = values_of(lent.value, &value);
     let handed = recover_log(&area[..a], &mut at[..t], &mut value[..v]);
-    let count = show_log_answer(handed);
+    let count = show_log_answer(stdout, handed);
     let mut after = log;
     after.at = at;
     after.value = value;
@@ -96,53 +97,56 @@ pub fn recover_area(log: Log) -> Log {
 }
 
 // The first and the last word of a message.
-fn show_ends(part: &[u8]) {
+fn show_ends(stdout: Stdout, part: &[u8]) {
     let n = part.len();
     if n == 0 {
         return;
     }
-    show::number(padded_word(part, 0));
+    show::number(stdout, padded_word(part, 0));
     if n <= 384 {
-        show::number(padded_word(part, (n - 1) / 8));
+        show::number(stdout, padded_word(part, (n - 1) / 8));
     }
 }
 
-pub fn show_part(log: Log, number: u64) {
+pub fn show_part(stdout: Stdout, log: Log, number: u64) {
     let area = log.area;
     let lent = log.lent;
-    let a = io::count((lent.area % 1345) as isize, &area);
+    let a = bytes_of(lent.area % 1345, &area);
     let mut refusal: u32 = 0;
     let part = read(&area[..a], number, &mut refusal);
     if refusal != 0 {
-        show::refused(refusal);
+        show::refused(stdout, refusal);
     }
-    show::text(b" length");
-    show::number(part.len() as u64);
-    show_ends(part);
+    show::text(stdout, b" length");
+    show::number(stdout, part.len() as u64);
+    show_ends(stdout, part);
 }
 
-pub fn play_log(log: Log) -> Log {
+pub fn play_log(stdout: Stdout, log: Log) -> Log {
     let mut area = log.area;
     let at = log.at;
     let value = log.value;
     let lent = log.lent;
-    let a = io::count((lent.area % 1345) as isize, &area);
+    let a = bytes_of(lent.area % 1345, &area);
     let n = numbers_of(log.count, &at);
     let v = values_of(log.count, &value);
-    show::number(play_list(&mut area[..a], &at[..n], &value[..v]) as u64);
+    show::number(
+        stdout,
+        play_list(&mut area[..a], &at[..n], &value[..v]) as u64,
+    );
     let mut after = log;
     after.area = area;
     after
 }
 
-pub fn show_log_stores(log: Log, count: usize) {
+pub fn show_log_stores(stdout: Stdout, log: Log, count: usize) {
     let at = log.at;
     let value = log.value;
     let n = numbers_of(count, &at);
     let v = values_of(count, &value);
-    show::numbers(&at[..n]);
-    show::text(b"\n ");
-    show::values(&value[..v]);
+    show::numbers(stdout, &at[..n]);
+    show::text(stdout, b"\n ");
+    show::values(stdout, &value[..v]);
 }
 
 fn area_word_or_zero(area: &[u8; 1344], i: usize) -> u64 {
@@ -152,7 +156,7 @@ fn area_word_or_zero(area: &[u8; 1344], i: usize) -> u64 {
     0
 }
 
-pub fn show_area_word(log: Log, i: usize) {
+pub fn show_area_word(stdout: Stdout, log: Log, i: usize) {
     let area = log.area;
-    show::number(area_word_or_zero(&area, i));
+    show::number(stdout, area_word_or_zero(&area, i));
 }

@@ -3,6 +3,9 @@
 // 2's and the one of that name without it layout 1's; format and the plays serve both. A call whose name begins with
 // own_ is no call of document 01: it is for the owner of its index, one that comes from recovery and the accepted calls
 // since. With such an index it is the call without own_, by the laws either-call and either-basket.
+
+#![tactic(auto)]
+
 pub mod layouts;
 
 pub use calls::{

@@ -1,4 +1,7 @@
 // A basket in layout 2, for a program in C, C++ or Rust.
+
+#![tactic(auto)]
+
 ghost use Rattle.std.specs.Prelude.{◌≡◌, length};
 ghost use Rattle.interface.specs.Set.{buffers_after_lists, changes_of, basket_result, index_of};
 ghost use Rattle.exports.specs.State.{state_from};

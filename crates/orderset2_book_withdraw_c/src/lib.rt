@@ -1,4 +1,7 @@
 // A withdraw in layout 2, for a program in C, C++ or Rust.
+
+#![tactic(auto)]
+
 ghost use Rattle.std.specs.Prelude.{◌≡◌};
 ghost use Rattle.interface.specs.Set.{zipped, key_with, index_of};
 ghost use Rattle.book.specs.Steps.{withdraw_result};

@@ -1,5 +1,8 @@
 // A fill in layout 2 for the owner of an index, that is, of an index from recovery and the accepted calls since, for a
 // program in C, C++ or Rust. It is no call of document 01; the answer is that of the step without `own`.
+
+#![tactic(auto)]
+
 ghost use Rattle.std.specs.Prelude.{◌≡◌, true};
 ghost use Rattle.interface.specs.Set.{zipped, key_with, index_of};
 ghost use Rattle.book.specs.Steps.{fill_result_by};

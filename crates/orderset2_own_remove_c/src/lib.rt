@@ -1,5 +1,8 @@
 // Remove in layout 2 for the owner of an index, that is, of an index from recovery and the accepted calls since, for a
 // program in C, C++ or Rust. It is no call of document 01; the answer is that of the call without `own`.
+
+#![tactic(auto)]
+
 ghost use Rattle.std.specs.Prelude.{◌≡◌, true};
 ghost use Rattle.interface.specs.Set.{zipped, key_with, remove_result_by, index_of};
 ghost use Rattle.exports.specs.State.{state_from};

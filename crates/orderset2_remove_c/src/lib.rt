@@ -1,4 +1,7 @@
 // Remove in layout 2, for a program in C, C++ or Rust.
+
+#![tactic(auto)]
+
 ghost use Rattle.std.specs.Prelude.{◌≡◌};
 ghost use Rattle.interface.specs.Set.{zipped, key_with, remove_result, index_of};
 ghost use Rattle.exports.specs.State.{state_from};

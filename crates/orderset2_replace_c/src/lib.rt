@@ -1,4 +1,7 @@
 // Replace in layout 2, for a program in C, C++ or Rust.
+
+#![tactic(auto)]
+
 ghost use Rattle.std.specs.Prelude.{◌≡◌};
 ghost use Rattle.interface.specs.Set.{zipped, Replace, key_with, write_result, index_of};
 ghost use Rattle.exports.specs.State.{state_from};

@@ -1,4 +1,7 @@
 // A new order in layout 1, for a program in C, C++ or Rust.
+
+#![tactic(auto)]
+
 ghost use Rattle.std.specs.Prelude.{◌≡◌};
 ghost use Rattle.interface.specs.Set.{zipped, index_of};
 ghost use Rattle.book.specs.Steps.{new_result};

@@ -1,15 +1,18 @@
 // The release trace: calls in the lines of the trial session on standard input, and for each call that stores one line
 // on standard output, with how many of its 81 cuts leave the earlier map and how many the later. Each second a line on
 // standard error says how far it is.
+#![tactic(auto)]
+
 ghost use Rattle.std.specs.Prelude.{◌≡◌, true, not, length, ◌==◌};
 ghost use Rattle.session.specs.Stream.{stream_end, after_read};
 ghost use Rattle.trace.specs.Step.{trace_result};
 
 use console::{Status, after_byte, flush};
-use libc::STDIN_FILENO;
 use session_stream_code::stream::open_stream;
+use show::input::read_some;
 use show::progress::{counted, seconds};
-use std::num::wrapping_add_u64;
+use std::io::Stdout;
+use std::time::Clock;
 use trace_code::stream::{trace_byte, trace_end};
 
 // How many lines were read and how many calls tried, and the second of the last line on standard error.
@@ -17,7 +20,7 @@ use trace_code::stream::{trace_byte, trace_end};
 struct Tried {
     lines: u64,
     calls: u64,
-    second: i64,
+    second: u64,
 }
 
 #[derive(Clone, Copy)]
@@ -27,11 +30,11 @@ struct Run {
 }
 
 // Where another second has begun, a line on standard error says how many lines were read and calls tried.
-fn show_calls_tried(lines: u64, calls: u64, second: i64) -> Tried {
-    let now = seconds();
+fn show_calls_tried(rt: &(impl Eprint + Clock), lines: u64, calls: u64, second: u64) -> Tried {
+    let now = seconds(rt);
     if now != second {
-        counted(lines, b" lines, ");
-        counted(calls, b" calls tried\n");
+        counted(rt, lines, " lines, ");
+        counted(rt, calls, " calls tried\n");
     }
     Tried {
         lines,
@@ -41,19 +44,19 @@ fn show_calls_tried(lines: u64, calls: u64, second: i64) -> Tried {
 }
 
 // After a byte: the end of a line is one line more, and one call more where output was stored for it.
-fn count_byte(t: Tried, byte: u8, stored: bool) -> Tried {
+fn count_byte(rt: &(impl Eprint + Clock), t: Tried, byte: u8, stored: bool) -> Tried {
     if byte != 10 {
         return t;
     }
-    let lines = wrapping_add_u64(t.lines, 1);
+    let lines = t.lines.wrapping_add(1);
     if stored {
-        return show_calls_tried(lines, wrapping_add_u64(t.calls, 1), t.second);
+        return show_calls_tried(rt, lines, t.calls.wrapping_add(1), t.second);
     }
-    show_calls_tried(lines, t.calls, t.second)
+    show_calls_tried(rt, lines, t.calls, t.second)
 }
 
 // Before the first byte.
-fn start_trace() -> Run {
+fn start_trace(rt: &impl Clock) -> Run {
     let status = Status {
         progress: open_stream(),
         reading: true,
@@ -62,7 +65,7 @@ fn start_trace() -> Run {
     let tried = Tried {
         lines: 0,
         calls: 0,
-        second: seconds(),
+        second: seconds(rt),
     };
     Run { status, tried }
 }
@@ -70,6 +73,8 @@ fn start_trace() -> Run {
 // The bytes of one read, up to a write that fails, and the output of all of them is written; where there are no bytes,
 // the input has ended.
 fn trace_bytes(
+    rt: &(impl Eprint + Clock),
+    stdout: Stdout,
     t: Run,
     input: &[u8],
     image: &mut [u8],
@@ -93,14 +98,14 @@ fn trace_bytes(
         i += 1;
         let p = u.progress;
         let q = trace_byte(p, byte, image, heads, next, copy, later, out);
-        tried = count_byte(tried, byte, p.at < q.at);
-        u = after_byte(q, out);
+        tried = count_byte(rt, tried, byte, p.at < q.at);
+        u = after_byte(stdout, q, out);
         if !u.written {
             return Run { status: u, tried };
         }
     }
     let p = u.progress;
-    let done = flush(p, out);
+    let done = flush(stdout, p, out);
     let after = done.progress;
     let status = Status {
         progress: after,
@@ -111,7 +116,7 @@ fn trace_bytes(
 }
 
 // The reads are counted, since nothing says that the input ends.
-fn main() {
+fn main(rt: HostRuntime) {
     let mut input = [0u8; 4096];
     let mut out = [0u8; 4096];
     let mut image = [0u8; 65536];
@@ -119,12 +124,15 @@ fn main() {
     let mut later = [0u8; 65536];
     let mut heads = [0u32; 1];
     let mut next = [0u32; 512];
-    let mut r = start_trace();
+    let stdin = rt.stdin();
+    let stdout = rt.stdout();
+    let mut r = start_trace(&rt);
     let mut reads = u64::MAX;
     while reads > 0 && r.status.reading && r.status.written {
-        let got = libc::read(STDIN_FILENO, &mut input);
-        let n = io::count(got, &input);
+        let n = read_some(stdin, &mut input);
         r = trace_bytes(
+            &rt,
+            stdout,
             r,
             &input[..n],
             &mut image,
@@ -142,6 +150,6 @@ fn main() {
         let last = trace_end(
             p, &mut image, &mut heads, &mut next, &mut copy, &mut later, &mut out,
         );
-        flush(last, &out);
+        flush(stdout, last, &out);
     }
 }

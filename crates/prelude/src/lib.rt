@@ -1,1 +1,3 @@
 // Lists, choices, ranges and refusals in general: definitions and laws.
+
+#![tactic(auto)]

@@ -1,5 +1,7 @@
 // Recovery: types, definitions and laws.
 
+#![tactic(auto)]
+
 use index::State;
 
 // Recovery's answer: the state beside the rebuilt index, or a refusal with the slot that it names, 0 for none.

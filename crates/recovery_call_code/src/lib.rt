@@ -1,4 +1,7 @@
 // Recover: the index of an image is rebuilt.
+
+#![tactic(auto)]
+
 ghost use Rattle.std.specs.Prelude.{◌≡◌};
 ghost use Rattle.layout.specs.Record.{Layout};
 ghost use Rattle.recovery.specs.Recover.{recover_result, recover_end};

@@ -1,2 +1,5 @@
 // The last step of recovery: rebuilding.
+
+#![tactic(auto)]
+
 pub mod rebuilding;

@@ -1,2 +1,5 @@
 // Recovery's scan of the slots.
+
+#![tactic(auto)]
+
 pub mod scanning;

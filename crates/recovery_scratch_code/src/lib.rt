@@ -1,3 +1,6 @@
 // Recovery with the scratch lists of each size.
+
+#![tactic(auto)]
+
 mod fronts;
 pub mod scratch;

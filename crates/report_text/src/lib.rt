@@ -1,5 +1,7 @@
 // The report on images that come one after another: types, definitions and laws.
 
+#![tactic(auto)]
+
 // The totals of the accepted images.
 #[derive(Clone, Copy)]
 pub struct SlotTotals {

@@ -1,4 +1,7 @@
 // The report on images that come one after another: the first bytes of a buffer, and the end of the input.
+
+#![tactic(auto)]
+
 mod image;
 mod lent;
 mod storing;

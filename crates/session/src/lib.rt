@@ -1,4 +1,7 @@
 // The trial session, and that it answers as the plain map does: types, definitions and laws.
+
+#![tactic(auto)]
+
 use interface::State;
 use text::{Parse, Reply};
 

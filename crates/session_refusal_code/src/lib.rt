@@ -1,2 +1,5 @@
 // The refusals of the lines of the trial session.
+
+#![tactic(auto)]
+
 pub mod refusal;

@@ -1,5 +1,5 @@
 // Fronts of lists: how many first entries are lent.
-ghost use Rattle.io.specs.Counts.{IsPrefixLen};
+ghost use Rattle.show.specs.Fronts.{IsPrefixLen};
 
 // So many word numbers, or all.
 pub fn numbers_of(n: usize, list: &[u32]) -> usize
@@ -13,6 +13,16 @@ pub fn numbers_of(n: usize, list: &[u32]) -> usize
 
 // So many values, or all.
 pub fn values_of(n: usize, list: &[u64]) -> usize
+    ensures result { IsPrefixLen result list.now }
+{
+    if n < list.len() {
+        return n;
+    }
+    list.len()
+}
+
+// So many bytes, or all.
+pub fn bytes_of(n: usize, list: &[u8]) -> usize
     ensures result { IsPrefixLen result list.now }
 {
     if n < list.len() {

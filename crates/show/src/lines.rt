@@ -1,6 +1,6 @@
 // Lines of the input: a name, and up to four numbers after it.
 ghost use Rattle.std.specs.Prelude.{◌≤◌, length};
-ghost use Rattle.io.specs.Counts.{IsPrefixLen};
+ghost use Rattle.show.specs.Fronts.{IsPrefixLen};
 
 // The numbers of a line so far: `place` is the one that is read, 0 for the name.
 #[derive(Clone, Copy)]

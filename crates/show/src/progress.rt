@@ -1,14 +1,15 @@
 // Lines of progress on standard error.
-use libc::STDERR_FILENO;
+use std::time::Clock;
 
 // The time in seconds.
-pub fn seconds() -> i64 {
-    let mut t = 0;
-    libc::time(&mut t)
+pub fn seconds(clock: &impl Clock) -> u64 {
+    match clock.since_1970() {
+        Ok(t) => t.as_secs(),
+        Err(_) => 0,
+    }
 }
 
 // A count, and what is counted.
-pub fn counted(n: u64, what: &[u8]) {
-    io::print_decimal(STDERR_FILENO, n);
-    io::write_all(STDERR_FILENO, what);
+pub fn counted(err: &impl Eprint, n: u64, what: &str) {
+    let _ = eprint!(err; "{n}{what}");
 }

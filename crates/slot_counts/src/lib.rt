@@ -1,5 +1,7 @@
 // Counting the slots of an image: types, definitions and laws.
 
+#![tactic(auto)]
+
 // How many slots of an accepted image are of each class, in the order of document 02.
 #[derive(Clone, Copy)]
 pub struct SlotCounts {

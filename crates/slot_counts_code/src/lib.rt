@@ -1,4 +1,7 @@
 // The slots of an image are counted by what they hold.
+
+#![tactic(auto)]
+
 mod void_records;
 
 ghost use Rattle.std.specs.Prelude.{◌≡◌};

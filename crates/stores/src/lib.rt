@@ -1,5 +1,7 @@
 // Stores and what stands of them after a cut: types, definitions and laws.
 
+#![tactic(auto)]
+
 // A store: it sets the word with this number, counted from the start of an image or of an area, to the value.
 #[derive(Clone, Copy)]
 pub struct Store {

@@ -1,3 +1,6 @@
 // The stores of a record.
+
+#![tactic(auto)]
+
 pub mod record;
 pub mod value;

@@ -1,5 +1,7 @@
 // The lines of the trial session, read and printed: types, definitions and laws.
 
+#![tactic(auto)]
+
 // What a line of input asks; Bad is a line of none of the forms.
 #[derive(Clone, Copy)]
 pub enum Line {

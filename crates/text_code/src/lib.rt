@@ -1,3 +1,6 @@
 // Lines of input read byte by byte, and lines of output.
+
+#![tactic(auto)]
+
 pub mod input;
 pub mod output;

@@ -1,2 +1,5 @@
 // The input of a release trace byte by byte.
+
+#![tactic(auto)]
+
 pub mod stream;

@@ -1,2 +1,5 @@
 // The lines of a release trace, on any image and index.
+
+#![tactic(auto)]
+
 pub mod step;

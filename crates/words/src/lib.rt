@@ -1,1 +1,3 @@
 // Words of 8 bytes in a list of bytes: definitions and laws.
+
+#![tactic(auto)]

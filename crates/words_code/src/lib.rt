@@ -1,4 +1,7 @@
 // Words of 8 bytes, low byte first, in a lent slice of bytes.
+
+#![tactic(auto)]
+
 ghost use Rattle.std.specs.Prelude.{◌≡◌, ◌+◌, ◌-◌, ◌*◌, ◌≤◌, max, min, length, get_or};
 ghost use Rattle.words.specs.Word.{joined, word, set_bytes, set_word};
 

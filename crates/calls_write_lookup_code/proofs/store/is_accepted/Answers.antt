@@ -1,0 +1,37 @@
+-- Answers of `calls_write_lookup_code::store::is_accepted`.
+use mathlib.Core.Path.{refl, sym, ◌∙◌}
+use mathlib.Core.Bool.{true≢false}
+use borrow.Author.Rules.{rules}
+use Rattle.index.proofs.Faults.{reusable}
+use Rattle.calls.proofs.Lookups.{store_version}
+use Rattle.calls_write_lookup_code.proofs.store.is_accepted.Goals as goal
+
+pub returns-then-ends_fault-ne0 : goal.returns-then-ends_fault-ne0
+returns-then-ends_fault-ne0 c =
+    record { result = (λ e. absurd (true≢false (sym e))) }
+
+pub returns-then-state-removes : goal.returns-then-state-removes
+returns-then-state-removes c =
+    record { result = (λ e. absurd (true≢false (sym e))) }
+
+pub returns-then-live_fault-ne0 : goal.returns-then-live_fault-ne0
+returns-then-live_fault-ne0 c =
+    record { result = (λ e. absurd (true≢false (sym e))) }
+
+pub returns-then-version_fault-ne0 : goal.returns-then-version_fault-ne0
+returns-then-version_fault-ne0 c =
+    record { result = (λ e. absurd (true≢false (sym e))) }
+
+pub is_open_by-requires : goal.is_open_by-requires
+is_open_by-requires c =
+    let ends = reusable _ _ _ (sym c.ends_fault.ensures.result ∙ c.if-ends_fault-ne0.false) in
+    (c.requires, ends.first_low, ends.first_high)
+
+pub returns : goal.returns
+returns c =
+    record { result = (λ e.
+    sym
+    (store_version _ _ c.args.state _ _ _ c.ends_fault.ensures.result c.if-ends_fault-ne0.false c.if-state-removes.false _
+    (sym (c.is_open_by.ensures.result e)) refl _ c.live_fault.ensures.result c.if-live_fault-ne0.false _
+    c.version_fault.ensures.result)
+    ∙ c.if-version_fault-ne0.false) }

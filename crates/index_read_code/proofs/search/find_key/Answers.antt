@@ -1,0 +1,49 @@
+-- Answers of `index_read_code::search::find_key`.
+use native.Mathlib.Omega.{arith}
+use borrow.Author.Rules.{rules}
+use Rattle.layout.specs.Record.{key_with}
+use Rattle.index.proofs.Walks.{Going, begins, at-end, past, here, on, out}
+use Rattle.index_read_code.proofs.search.find_key.Goals as goal
+
+pub head_of-head-requires : goal.head_of-head-requires
+head_of-head-requires c =
+    c.requires.1.some_head
+
+pub offset_bounds-heads-head : goal.offset_bounds-heads-head
+offset_bounds-heads-head c =
+    omega (arith, c.well_formed.1.1.0.1, c.head_of-head.ensures.result.0)
+
+pub bounds-heads-head : goal.bounds-heads-head
+bounds-heads-head c =
+    c.head_of-head.ensures.result.0
+
+pub loop-left-init : goal.loop-left-init
+loop-left-init c =
+    begins _ _ _ _ _ _ _ c.requires.1.slot_count (c.head_of-head.ensures.result.1 c.args.high) (c.shared_slice_known-4-1.given _).fits
+
+pub returns-then-at-eq0 : goal.returns-then-at-eq0
+returns-then-at-eq0 c =
+    record { result = (at-end _ _ _ _ _ _ _ _ _ _ c.loop-left.invariant (search rules) c.if-at-eq0.true) }
+
+pub returns-then-n-slot : goal.returns-then-n-slot
+returns-then-n-slot c =
+    record { result = (past _ _ _ _ _ _ _ _ _ _ c.loop-left.invariant (search rules) c.if-at-eq0.false c.if-n-slot.true) }
+
+pub has_key-requires : goal.has_key-requires
+has_key-requires c =
+    record { layout = c.requires.0; room = omega (arith, c.requires.1.image-size, c.if-n-slot.false) }
+
+pub returns-then-has_key : goal.returns-then-has_key
+returns-then-has_key c =
+    record { result = (here _ _ _ _ _ _ _ _ _ _ c.loop-left.invariant (search rules) c.if-at-eq0.false c.if-n-slot.false _
+    c.has_key.ensures.result c.if-has_key.true) }
+
+pub loop-left-preserved : goal.loop-left-preserved
+loop-left-preserved c =
+    on _ _ _ _ _ _ _ _ _ _ c.loop-left.invariant (search rules) c.if-at-eq0.false c.if-n-slot.false _
+    c.has_key.ensures.result c.if-has_key.false
+    (c.shared_slice_known-in-loop-left-1.given _).fits
+
+pub returns : goal.returns
+returns c =
+    record { result = (out _ _ _ _ _ _ _ _ _ _ c.loop-left.invariant c.loop-left-test.false) }

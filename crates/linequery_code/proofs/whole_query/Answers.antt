@@ -1,0 +1,35 @@
+-- Answers of `linequery_code::whole_query`.
+use mathlib.Core.Path.{ap₂, ◌∙◌}
+use mathlib.Core.Bool.{cond}
+use Prim.Native.Nat.{ℕ}
+use native.Mathlib.Omega.{arith}
+use borrow.Author.Rules.{rules}
+use Rattle.layout.specs.Line.{whole}
+use Rattle.linequery.specs.Query.{whole_query}
+use Rattle.linequery.proofs.Queries.{slices_sized, query_refused, query_put}
+use Rattle.linequery_code.proofs.whole_query.Goals as goal
+
+-- `linequery_code::whole_query` meets its contract. Assumes nothing.
+pub returns-then-fault-ne0 : goal.returns-then-fault-ne0
+unfolding whole_query
+returns-then-fault-ne0 c =
+    record { result = (query_refused _ _ _ _ c.slice_fault-fault.ensures c.if-fault-ne0.true) }
+
+pub read_word-requires : goal.read_word-requires
+read_word-requires c =
+    omega (arith, slices_sized _ _ _ c.slice_fault-fault.ensures c.if-fault-ne0.false)
+
+pub read_word-requires-2 : goal.read_word-requires-2
+read_word-requires-2 c =
+    omega (arith, slices_sized _ _ _ c.slice_fault-fault.ensures c.if-fault-ne0.false)
+
+pub write_word-requires : goal.write_word-requires
+write_word-requires c =
+    omega (arith, slices_sized _ _ _ c.slice_fault-fault.ensures c.if-fault-ne0.false)
+
+pub returns : goal.returns
+unfolding whole_query
+returns c =
+    record { result = (query_put _ _ _ _ c.slice_fault-fault.ensures c.if-fault-ne0.false _ _ c.write_word.ensures.result
+    (c.whole_word.ensures ∙ ap₂ (λ (x y : ℕ). cond (whole x y) 1 0) c.read_word.ensures.result
+    c.read_word-2.ensures.result)) }
