@@ -12,7 +12,8 @@ use mir.Syntax.{Width, ty_int, ty_array}
 use mir.Val.{Val}
 use base.Fml.{Lft, Share, Fml, fsep, fdead, flent, fhide}
 use types.Logic.{Logic}
-use types.Kit.{Goal, Soaks, Item, ‵, ◌⊛◌, later, Seq, Step, step, ◌$◌, ◌∵◌, !, qed, done, move, drop, use1, split, rewrite, await, fsplit, fjoin, fpick, fpack, feq_i}
+use types.Kit.{Goal, Soaks, Item, ‵, ◌⊛◌, later, Seq, Step, step, ◌$◌, ◌∵◌, !, qed, done, move, drop, use1, split, rewrite, await, fsplit, fjoin, fpick}
+use types.Kit.{fpack, feq_i}
 use types.Tokens.{lent_back}
 use types.Share.{arr_parts}
 use denote.Laws.{Is, shows}
@@ -60,7 +61,8 @@ module _ {M : Type 1} {𝓤 : Ura M} {𝓛 : Logic 𝓤} {K : Type 0} {Γ : List
   array_lent t z w n xs b κ is room k =
       owned t (Array (UInt w) n) (Is (Array (UInt w) n)) (Array-Makes 𝓛 (UInt w) (uint_Makes 𝓛 w) n) xs (array_vals (uint_vals w) xs) is $ move t
       (1 ∷ 0 ∷ []) $ fjoin t $
-      fpack t (List Val) (λ us. fsep (cell_at full_share (ty_array (ty_int w) n ∷ []) us b 0) ((Array (UInt w) n).own_val xs us)) (array_vals (uint_vals w) xs) $
+      fpack t (List Val) (λ us. fsep (cell_at full_share (ty_array (ty_int w) n ∷ []) us b 0) ((Array (UInt w) n).own_val xs us)) (array_vals (uint_vals w) xs)
+      $
       use1 𝓛 (‵ ((arr_parts (shares (UInt w)) n).part full_share xs b 0)) (Array-apart 𝓛 (UInt w) full_share tt n xs b 0) $
       rewrite t 0 (λ (m : ℕ). ‵ ((arr_parts (shares (UInt w)) m).part full_share xs b 0)) (sym is.1.0.1) refl $
       use1 𝓛 (later (‵ (fhide (elements_shared (UInt w) xs b 0 κ)) ⊛ ‵ (LentArray w κ xs b))) (array_lends 𝓛 (UInt w) (uint_Copied 𝓛 w) full_share xs b 0 κ) $

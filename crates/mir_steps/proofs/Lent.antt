@@ -1,6 +1,7 @@
 -- Lent slices, for a walk of MIR by hand. What is owned of a `&mut [T]` or a `&[T]` is taken apart and put together
 -- whole, and an element is reached with its type's laws.
---     Element R        what a walk asks of an element's type: how a value's machine values are spelled, that its relation tells them, and what is taken of it as Copy
+-- Element R what a walk asks of an element's type: how a value's machine values are spelled, that its relation tells
+-- them, and what is taken of it as Copy
 --     opened, closed   a `&κ mut [T]` is opened, which gives the row of its elements, and closed at a list of the same length
 --     given-up         a `&κ mut [T]` is given up for what says its last list
 --     looked           a `&κ [T]` is looked into, which gives a share of the row of its elements, for `shuts_slice` to shut again
@@ -97,7 +98,8 @@ module _ {M : Type 1} {𝓤 : Ura M} {𝓛 : Logic 𝓤} {K : Type 0} {Γ : List
   pub given_up : K → (R : RattleType) (κ : Lft) (ys : List R.Denot) (γ : GName) (b o : ℕ) {vs : List Val}
       → Step K 𝓛 (‵ (finally R γ ys) ∷ Γ) G (‵ (OwnsMut R κ b o γ ys vs) ∷ Γ) G
   given_up t R κ ys γ b o =
-      step (λ s. fsplit t $ drop t $ fsplit t $ use1 𝓛 (‵ (fres γ ((coded_holeys R).code (heres R ys)))) (𝓛.names.obs-res γ ((coded_holeys R).code (heres R ys)))
+      step (λ s. fsplit t $ drop t $ fsplit t $ use1 𝓛 (‵ (fres γ ((coded_holeys R).code (heres R ys))))
+      (𝓛.names.obs-res γ ((coded_holeys R).code (heres R ys)))
       $
       use1 𝓛 (‵ (finally R γ ys)) (res-finally 𝓛 erased κ R γ ys) $ move t (1 ∷ []) $ drop t $ s)
 
