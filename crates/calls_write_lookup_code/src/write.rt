@@ -1,5 +1,5 @@
 // What an insert or a replace reads before it writes. The two are functions of their own, so that each is compiled for
-// its mode alone.
+// its mode alone; write_lookup calls the one of its mode.
 ghost use Rattle.std.specs.Prelude.{◌≡◌};
 ghost use Rattle.layout.specs.Record.{Layout, key_with};
 ghost use Rattle.index.specs.declared.Mode.TheVariants.{Insert, Replace};
@@ -8,7 +8,7 @@ ghost use Rattle.calls.specs.Change.{write_lent_fault};
 ghost use Rattle.calls.specs.inner.Lookup.{WriteLookup};
 
 use crate::store::{is_accepted, store_fault};
-use index::{Found, Lookup, Place, State};
+use index::{Found, Lookup, Mode, Place, State};
 use index_read_code::search::{find_key, unless_refused};
 use layout_code::header::{lent_fault, slot_count};
 use layout_fields_code::fields::value_limit;
@@ -127,5 +127,27 @@ pub fn replace_lookup(
             number: 11, // no chain, whatever the key
             compared: 0,
         },
+    }
+}
+
+// What an insert or a replace reads before it writes, by the mode.
+pub fn write_lookup(
+    image: &[u8],
+    l: usize,
+    heads: &[u32],
+    next: &[u32],
+    state: State,
+    mode: Mode,
+    low: u64,
+    high: u64,
+    size: usize,
+    own: bool,
+) -> Lookup
+    requires { Layout l }
+    ensures result { WriteLookup own l image.now (index_of heads.now next.now state) mode (key_with low high) size result }
+{
+    match mode {
+        Mode::Insert => insert_lookup(image, l, heads, next, state, low, high, size, own),
+        Mode::Replace => replace_lookup(image, l, heads, next, state, low, high, size, own),
     }
 }

@@ -44,3 +44,10 @@ takeable f n top scan s = takeable_if top (cond scan (any_of (older f s) 1 n) tr
 -- by its line A alone, slot s is below `top` and no remove record
 unfoldable pub low_put : (l : ℕ) → (ℕ → ℕ) → (top s : ℕ) → Bool
 low_put l m top s = ltb (version_of (line_a m s 7)) top && not (eqb (kind_of (line_a m s (l + 1))) 2)
+
+-- the chain's first slot is such a one, and its link is one that a chain has
+pub record OpenFirst (l : ℕ) (m : ℕ → ℕ) (next : List ℕ) (n top first : ℕ) : Type 0 where
+  pub low : first ≡ 0 → ⊥
+  pub high : first ≤ n
+  pub link : get_or next first 0 ≤ n
+  pub put : low_put l m top first ≡ true
