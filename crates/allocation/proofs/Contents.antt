@@ -161,7 +161,8 @@ module _ (f : Table) (s kind key v : ℕ) (h : Holds kind key v (f s)) where
               ≡ older_than f key v t
           go (holds_none z e) = absurd (some z)
           go (holds_put value ne k e) = absurd (k remove)
-          go (holds_remove ne k e) = ap (λ (c : Content). is_record (f t) && (eqb (key_in (f t)) (key_in c) && ltb (highest_whole_in (f t)) (highest_whole_in c))) e
+          go (holds_remove ne k e) =
+              ap (λ (c : Content). is_record (f t) && (eqb (key_in (f t)) (key_in c) && ltb (highest_whole_in (f t)) (highest_whole_in c))) e
 
       -- it is, and b tells whether there is an older record
       pub take_looked : v < top → kind ≡ 2 → scan ≡ true → (b : Bool) → b ≡ any_of (older_than f key v) 1 n → not b ≡ takeable f n top scan s

@@ -22,7 +22,8 @@ use Rattle.layout.specs.Record.{Layout, kind_of, key_of, key_with}
 use Rattle.layout.specs.Content.{Content, highest_whole_in, Table, content, contents_of}
 use Rattle.layout.specs.inner.Key.{high_word}
 use Rattle.layout.proofs.KeyWords.{key_parts, same_words}
-use Rattle.index.specs.Allocation.{Taken, Allocation, taken, too_few, bad_link, with_taken, at_end, allocation_walk, allocate_from, link_fault, few_fault, ends_fault}
+use Rattle.index.specs.Allocation.{Taken, Allocation, taken, too_few, bad_link, with_taken, at_end, allocation_walk, allocate_from, link_fault, few_fault}
+use Rattle.index.specs.Allocation.{ends_fault}
 use Rattle.index.specs.Allocation.{reuse_fault, room_fault}
 use Rattle.index.specs.inner.Basket.{takens_from}
 use Rattle.index.proofs.Takens.{takens_each}
@@ -217,7 +218,8 @@ module _ (p : ℕ → Bool) (q : List ℕ → ℕ → Bool) (next : List ℕ) (n
       met_some : left ≡ 0 → ⊥
       met_some z = subst (AllTaken Good) (take_over q next n left wanted prev at chosen z at_low) a
 
-  none_wanted : (left wanted fewer prev prev' at : ℕ) (chosen chosen' : List ℕ) → fewer ≡ 0 → AllTaken Good (allocation_walk q next n left wanted prev at chosen)
+  none_wanted : (left wanted fewer prev prev' at : ℕ) (chosen chosen' : List ℕ) → fewer ≡ 0
+      → AllTaken Good (allocation_walk q next n left wanted prev at chosen)
       → wide left fewer prev' at chosen' ≡ 0
   none_wanted left wanted fewer prev prev' at chosen chosen' z a =
       ap (λ (v : ℕ). wide left v prev' at chosen') z ∙ end-fault (λ c. p) next n left prev' at chosen' ∙ link_fine left wanted prev at chosen a
@@ -325,7 +327,8 @@ module _ (l : ℕ) (image : List ℕ) (n top : ℕ) (bounded : top ≤ greatest 
     where
       parts : (t : ℕ) → Slot n t
           → (older_left (contents_of l image) (get_or slots k 0) t ≡ false) × (any_in (λ s. older_left (contents_of l image) s t) (chosen_of slots k) ≡ false)
-      parts t u = or_none (older_left (contents_of l image) (get_or slots k 0) t) (any_in (λ s. older_left (contents_of l image) s t) (chosen_of slots k)) (h t u)
+      parts t u =
+          or_none (older_left (contents_of l image) (get_or slots k 0) t) (any_in (λ s. older_left (contents_of l image) s t) (chosen_of slots k)) (h t u)
 
       go : (b : Bool) → eqb j k ≡ b → (j < k → NoneLeft (get_or slots j 0)) → NoneLeft (get_or slots j 0)
       go true e ih = subst (λ (x : ℕ). NoneLeft (get_or slots x 0)) (sym (eqb-true j k e)) (λ t u. (parts t u).0)
@@ -338,7 +341,8 @@ module _ (l : ℕ) (image : List ℕ) (n top : ℕ) (bounded : top ≤ greatest 
   clear_by_pass next first wanted r strict ch z c =
       record {
         fine =
-            taken_fine (may_take (contents_of l image) n) (may_take_below l image top) next n NoneLeft surely_below n wanted wanted 0 0 first [] [] (omega arith)
+            taken_fine (may_take (contents_of l image) n) (may_take_below l image top) next n NoneLeft surely_below n wanted wanted 0 0 first [] []
+            (omega arith)
             (subst (AllTaken NoneLeft) (sym (ch.slots_are z))
             (takens_all NoneLeft r.slots r.prevs 0 wanted (λ j a b. each_left r.slots wanted (λ t i. (c t i).none_older) j (omega arith))));
         highest = λ e. omega (arith, bounded, greatest_least (slot_version (word image)) n top (λ t i. (c t i).none_above e));
@@ -441,7 +445,8 @@ module _ (l : ℕ) (image next : List ℕ) (n first wanted : ℕ) (some : 0 < wa
     where
       refusal : take_fault (allocation_chosen l image next n first wanted) ≡ 28
       refusal =
-          ap (λ (t : ℕ). take_fault (allocate_from (may_take_below l image t) next n first wanted)) (sym (highest_is l (word image) n) ∙ sym h) ∙ sym ch.fault_is
+          ap (λ (t : ℕ). take_fault (allocate_from (may_take_below l image t) next n first wanted)) (sym (highest_is l (word image) n) ∙ sym h)
+          ∙ sym ch.fault_is
           ∙ e
 
       ends : ends_well next n n first ≡ true

@@ -27,7 +27,8 @@ use Rattle.index.specs.Allocation.{Taken, taken, allocate_from}
 use Rattle.index.proofs.BasketInside.{TakenInside, taking_inside}
 use Rattle.index.specs.declared.State.{State}
 use Rattle.index.proofs.Allocations.{AgreeAlong, sits_alike}
-use Rattle.allocation.specs.Allocation.{allocation_by_rule, allocation_chosen, may_take_below, named_version, own_allocation, allocation_by, allocation_chosen_by}
+use Rattle.allocation.specs.Allocation.{allocation_by_rule, allocation_chosen, may_take_below, named_version, own_allocation, allocation_by}
+use Rattle.allocation.specs.Allocation.{allocation_chosen_by}
 use Rattle.allocation.specs.inner.Walk.{take_fault}
 use Rattle.allocation.specs.inner.Choice.{Chosen}
 use Rattle.allocation.specs.declared.Choice.{Choice}
@@ -103,7 +104,8 @@ module _ (l : ℕ) (image next : List ℕ) (n first newest : ℕ) (top : ℕ) (n
           → cond b (ltb (highest_whole_in (contents_of l image first)) (named_version image n newest) && not (c && false)) true ≡ true
       go true r c =
           ap₂ (λ (x y : Bool). x && not y)
-          (lt-ltb (highest_whole_in (contents_of l image first)) (named_version image n newest) (omega (arith, (line_version l image first r).0, version, named)))
+          (lt-ltb (highest_whole_in (contents_of l image first)) (named_version image n newest)
+          (omega (arith, (line_version l image first r).0, version, named)))
           (none c)
         where
           none : (b : Bool) → b && false ≡ false
@@ -125,7 +127,8 @@ module _ (l : ℕ) (image next : List ℕ) (n first newest : ℕ) (top : ℕ) (n
       → Chosen (own_allocation l image next n first newest wanted) (own_allocation l image next n first newest wanted) wanted r
   unfolding own_allocation
   own_chosen wanted r h =
-      subst (λ (v : ℕ). Chosen (allocate_from (may_take_below l image v) next n first wanted) (allocate_from (may_take_below l image v) next n first wanted) wanted r)
+      subst (λ (v : ℕ). Chosen (allocate_from (may_take_below l image v) next n first wanted) (allocate_from (may_take_below l image v) next n first wanted)
+      wanted r)
       named h
 
 -- tests that agree on the slots of a list
@@ -140,7 +143,8 @@ pub own_taken : (l : ℕ) (image heads next : List ℕ) (s : State) (n b : ℕ) 
     → own_allocation l image next n s.first s.newest wanted ≡ allocation_by_rule l image next n s.first wanted
 unfolding own_allocation allocation_chosen
 own_taken l image heads next s n b place chains wanted g sp o right =
-    sits_alike n b place (index_of heads next s) chains g (may_take_below l image (named_version image n s.newest)) (may_take_after (contents_of l image) n) wanted
+    sits_alike n b place (index_of heads next s) chains g (may_take_below l image (named_version image n s.newest)) (may_take_after (contents_of l image) n)
+    wanted
     (agree_along _ _ (chains reuse) [] (λ c x i. below_same l image n s.newest right c x (sp.slot x i)))
     ∙ choice_own l image heads next s n b place chains wanted g sp o
 

@@ -96,5 +96,6 @@ module _ (l : ℕ) (image next : List ℕ) (n first : ℕ) where
     pub choice_fine : take_fault (allocation_by_rule l image next n first wanted) ≡ 0 → take_fault (allocation_chosen l image next n first wanted) ≡ 0
     unfolding allocation_chosen allocate_from
     choice_fine z =
-        still_fine (may_take (contents_of l image) n) (may_take_after (contents_of l image) n) next n (may_after (contents_of l image) n) n n wanted wanted 0 first []
+        still_fine (may_take (contents_of l image) n) (may_take_after (contents_of l image) n) next n (may_after (contents_of l image) n) n n wanted wanted 0
+        first []
         (λ t i. absurd i) (omega arith) some (omega arith) (walked wanted some ∙ z)

@@ -90,7 +90,8 @@ module _ (may : ℕ → Bool) (next : List ℕ) (n : ℕ) where
   walk left wanted prev at chosen = allocation_walk (λ c. may) next n left wanted prev at chosen
 
   -- after the slot at which it is was taken, the last one or not
-  after : (left wanted prev at : ℕ) (chosen : List ℕ) → 0 < wanted → ((v : ℕ) → 0 < v → take_fault (walk left v prev at chosen) ≡ walk_fault may next n left v at)
+  after : (left wanted prev at : ℕ) (chosen : List ℕ) → 0 < wanted
+      → ((v : ℕ) → 0 < v → take_fault (walk left v prev at chosen) ≡ walk_fault may next n left v at)
       → take_fault (walk left (wanted - 1) prev at chosen) ≡ cond (eqb wanted 1) (end_fault n left at) (walk_fault may next n left (wanted - 1) at)
   after left wanted prev at chosen some ih = go (eqb wanted 1) refl
     where
@@ -101,7 +102,8 @@ module _ (may : ℕ → Bool) (next : List ℕ) (n : ℕ) where
           ap (λ (v : ℕ). take_fault (walk left v prev at chosen)) z ∙ end-fault (λ c. may) next n left prev at chosen
       go false e = ih (wanted - 1) (omega (arith, eqb-false wanted 1 e))
 
-  pub walk-fault : (left wanted prev at : ℕ) (chosen : List ℕ) → 0 < wanted → take_fault (walk left wanted prev at chosen) ≡ walk_fault may next n left wanted at
+  pub walk-fault : (left wanted prev at : ℕ) (chosen : List ℕ) → 0 < wanted
+      → take_fault (walk left wanted prev at chosen) ≡ walk_fault may next n left wanted at
   unfolding allocation_walk walk_fault at_end take_fault link_fault few_fault or_else refuse_if
   walk-fault zero wanted prev at chosen some = go (eqb at 0) (eqb wanted 0) (ne_eqb wanted 0 (λ e. omega arith))
     where
