@@ -3,9 +3,9 @@ ghost use Rattle.std.specs.Prelude.{◌≡◌};
 ghost use Rattle.message_log.specs.LogOutcome.{log_answer, log_end};
 ghost use Rattle.message_log.specs.AppendAfter.{append_after_result};
 
-use message_log::LogOutcome;
 use log_stores_code::filling::fill_message;
 use log_stores_code::planning::append_after_plan;
+use message_log::LogOutcome;
 
 // Appends a message after this number, which may be any: the number one above it and the count of its stores, which
 // fill the front of the lists; or the refusal, which changes nothing.

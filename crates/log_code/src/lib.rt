@@ -1,4 +1,6 @@
 // The public calls of the log: append, append_after, recovery and read. None has a `requires`; each contract is one equation.
+#![tactic(auto)]
+
 mod after;
 mod appending;
 mod reading;

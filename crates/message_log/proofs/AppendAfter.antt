@@ -1,7 +1,5 @@
 -- APPEND_AFTER of the highest complete number is append. Assumes nothing.
-use mathlib.Core.Path.{◌≡◌, refl}
-use mathlib.Core.List.{List}
-use Prim.Native.Nat.{ℕ}
+use mathlib.Core.Path.{refl}
 use Rattle.message_log.specs.Append.{next_message, append_stores, append_fault, append_result}
 use Rattle.message_log.specs.AppendAfter.{append_after_stores, append_after_fault, append_after_result, AfterHighest}
 

@@ -22,7 +22,7 @@ use Rattle.message_log.specs.LogOutcome.{short_fault, log_end}
 use Rattle.message_log.specs.Append.{message_line, line_count, payload_stores, payloads_from, pairs_word, marked_body, marked_words, message_stores, message_fault}
 use Rattle.message_log.specs.Append.{next_message, append_stores, append_fault, append_result}
 use Rattle.message_log.specs.AppendAfter.{append_after_stores, append_after_fault, append_after_result}
-use Rattle.message_log.specs.inner.Needs.{CellCount, Filled, ListRoom, PayloadPlanned, AppendReady, AppendPlanned, AppendAfterReady, AppendAfterPlanned}
+use Rattle.message_log.specs.inner.Needs.{CellCount, Filled, ListRoom, PayloadPlanned, AppendPlanned, AppendAfterReady, AppendAfterPlanned}
 use Rattle.message_log.proofs.Flexible.{count_within, pair_low, packed_low}
 use Rattle.stores.proofs.Lists.{StoresFill, stores_begin, stores_on, stores_end, stores_room}
 use Rattle.message_log.proofs.Fillings.{filled, filled_append, hand_refused, hand_done}

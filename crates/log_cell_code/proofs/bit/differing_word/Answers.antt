@@ -1,9 +1,7 @@
 -- Answers of `log_cell_code::bit::differing_word`.
 use mathlib.Core.Path.{refl}
 use native.Mathlib.Omega.{arith}
-use borrow.Author.Rules.{rules}
-use Rattle.message_log.specs.Append.{message_line}
-use Rattle.message_log.proofs.Pairs.{Searching, search_start, search_passed, search_ended, search_equal, zeros_past}
+use Rattle.message_log.proofs.Pairs.{search_start, search_passed, search_ended, search_equal, zeros_past}
 use Rattle.log_cell_code.proofs.bit.differing_word.Goals as goal
 
 pub returns-then-message-i : goal.returns-then-message-i
@@ -25,5 +23,7 @@ returns-then-left-eq0 c =
 
 pub returns-then-read_word-padded_word : goal.returns-then-read_word-padded_word
 returns-then-read_word-padded_word c =
-    record { result = (search_ended _ _ _ _ _ _ _ c.loop-left.invariant (omega arith) refl
-    c.read_word.ensures.result c.padded_word.ensures.result c.if-read_word-padded_word.true) }
+    record {
+      result = (search_ended _ _ _ _ _ _ _ c.loop-left.invariant (omega arith) refl
+          c.read_word.ensures.result c.padded_word.ensures.result c.if-read_word-padded_word.true);
+    }

@@ -1,6 +1,5 @@
 -- Answers of `log_cell_code::bit::line_pair`.
 use native.Mathlib.Omega.{arith}
-use borrow.Author.Rules.{rules}
 use Rattle.message_log.proofs.Pairs.{pair_within, pair_none, pair_place, pair_apart, pair_some}
 use Rattle.log_cell_code.proofs.bit.line_pair.Goals as goal
 
@@ -30,5 +29,7 @@ pair_of-requires c =
 
 pub returns : goal.returns
 returns c =
-    record { result = (pair_some _ _ _ _ _ c.requires.found _ _ c.if-place-eq8.false
-    c.read_word-old.ensures.result c.padded_word-new.ensures.result _ (omega arith) (omega arith) c.pair_of.ensures) }
+    record {
+      result = (pair_some _ _ _ _ _ c.requires.found _ _ c.if-place-eq8.false
+          c.read_word-old.ensures.result c.padded_word-new.ensures.result _ (omega arith) (omega arith) c.pair_of.ensures);
+    }

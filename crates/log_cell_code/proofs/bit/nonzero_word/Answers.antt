@@ -1,9 +1,7 @@
 -- Answers of `log_cell_code::bit::nonzero_word`.
 use mathlib.Core.Path.{refl}
-use Prim.Native.Nat.{ℕ}
 use native.Mathlib.Omega.{arith}
-use borrow.Author.Rules.{rules}
-use Rattle.message_log.proofs.Pairs.{Searching, search_start, search_passed, search_ended, search_equal}
+use Rattle.message_log.proofs.Pairs.{search_start, search_passed, search_ended, search_equal}
 use Rattle.log_cell_code.proofs.bit.nonzero_word.Goals as goal
 
 pub loop-left-init : goal.loop-left-init

@@ -1,9 +1,6 @@
 -- Invariants and measures of `log_cell_code::bit::nonzero_word`.
-use mathlib.Core.Path.{refl}
 use Prim.Native.Nat.{ℕ}
-use native.Mathlib.Omega.{arith}
-use borrow.Author.Rules.{rules}
-use Rattle.message_log.proofs.Pairs.{Searching, search_start, search_passed, search_ended, search_equal}
+use Rattle.message_log.proofs.Pairs.{Searching}
 use Rattle.log_cell_code.proofs.bit.nonzero_word.Given as goal
 
 -- `log_cell_code::bit::nonzero_word` meets its contract. Assumes nothing.

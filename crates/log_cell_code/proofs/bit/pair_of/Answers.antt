@@ -2,7 +2,6 @@
 use native.Mathlib.Omega.{arith}
 use lib.Bits.{bit_xor}
 use lib.Count.{trailing_le}
-use borrow.Author.Rules.{rules}
 use Rattle.message_log.proofs.Differences.{last_place, bit_low}
 use Rattle.message_log.proofs.Pairs.{pair_sum}
 use Rattle.log_cell_code.proofs.bit.pair_of.Goals as goal

@@ -1,7 +1,6 @@
 -- Answers of `log_cell_code::bit::store_count`.
 use mathlib.Core.Path.{sym}
 use native.Mathlib.Omega.{arith}
-use borrow.Author.Rules.{rules}
 use Rattle.message_log.proofs.Flexible.{count_none, count_some}
 use Rattle.log_cell_code.proofs.bit.store_count.Goals as goal
 

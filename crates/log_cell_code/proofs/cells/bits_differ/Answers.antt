@@ -1,8 +1,6 @@
 -- Answers of `log_cell_code::cells::bits_differ`.
-use Prim.Native.Nat.{◌-◌}
 use borrow.Author.Rules.{rules}
-use Rattle.words.specs.Word.{word}
-use Rattle.message_log.proofs.CellWords.{Matching, match_start, match_hit, match_next, match_end}
+use Rattle.message_log.proofs.CellWords.{match_start, match_hit, match_next, match_end}
 use Rattle.log_cell_code.proofs.cells.bits_differ.Goals as goal
 
 pub loop-i-init : goal.loop-i-init

@@ -1,8 +1,7 @@
 -- Invariants and measures of `log_cell_code::cells::bits_differ`.
 use Prim.Native.Nat.{◌-◌}
-use borrow.Author.Rules.{rules}
 use Rattle.words.specs.Word.{word}
-use Rattle.message_log.proofs.CellWords.{Matching, match_start, match_hit, match_next, match_end}
+use Rattle.message_log.proofs.CellWords.{Matching}
 use Rattle.log_cell_code.proofs.cells.bits_differ.Given as goal
 
 -- `log_cell_code::cells::bits_differ` meets its contract. Assumes nothing.

@@ -1,5 +1,4 @@
 -- Answers of `log_cell_code::cells::greater_in`.
-use borrow.Author.Rules.{rules}
 use Rattle.message_log.proofs.CellWords.{not_greater}
 use Rattle.log_cell_code.proofs.cells.greater_in.Goals as goal
 

@@ -2,8 +2,7 @@
 use mathlib.Core.Path.{refl}
 use native.Mathlib.Omega.{arith}
 use borrow.Author.Rules.{rules}
-use Rattle.words.specs.Word.{word}
-use Rattle.message_log.proofs.CellWords.{Raising, raise_start, raise_next, raise_end}
+use Rattle.message_log.proofs.CellWords.{raise_start, raise_next, raise_end}
 use Rattle.log_cell_code.proofs.cells.highest_number.Goals as goal
 
 pub loop-left-init : goal.loop-left-init

@@ -1,9 +1,6 @@
 -- Invariants and measures of `log_cell_code::cells::highest_number`.
-use mathlib.Core.Path.{refl}
-use native.Mathlib.Omega.{arith}
-use borrow.Author.Rules.{rules}
 use Rattle.words.specs.Word.{word}
-use Rattle.message_log.proofs.CellWords.{Raising, raise_start, raise_next, raise_end}
+use Rattle.message_log.proofs.CellWords.{Raising}
 use Rattle.log_cell_code.proofs.cells.highest_number.Given as goal
 
 -- `log_cell_code::cells::highest_number` meets its contract. Assumes nothing.

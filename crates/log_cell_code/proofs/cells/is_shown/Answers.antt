@@ -1,7 +1,6 @@
 -- Answers of `log_cell_code::cells::is_shown`.
 use native.Mathlib.Nat.{mod-lt}
 use native.Mathlib.Omega.{arith}
-use borrow.Author.Rules.{rules}
 use Rattle.message_log.proofs.CellWords.{shown_zero, shown_high, shown_old, shown_by}
 use Rattle.log_cell_code.proofs.cells.is_shown.Goals as goal
 
@@ -23,5 +22,7 @@ number_in-requires c =
 
 pub returns : goal.returns
 returns c =
-    record { result = (shown_by _ _ _ _ c.highest_number-top.ensures.result
-    c.if-number-eq0.false c.if-top-number.false c.if-k-top.false _ c.number_in.ensures) }
+    record {
+      result = (shown_by _ _ _ _ c.highest_number-top.ensures.result
+          c.if-number-eq0.false c.if-top-number.false c.if-k-top.false _ c.number_in.ensures);
+    }

@@ -1,5 +1,4 @@
 -- Answers of `log_cell_code::cells::number_in`.
-use borrow.Author.Rules.{rules}
 use Rattle.message_log.proofs.CellWords.{number_open, number_zero, number_elsewhere, number_empty, number_long, number_torn, number_is}
 use Rattle.log_cell_code.proofs.cells.number_in.Goals as goal
 

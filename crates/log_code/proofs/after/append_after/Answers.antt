@@ -22,5 +22,7 @@ fill_message-requires c =
 pub returns : goal.returns
 unfolding log_answer
 returns c =
-    record { result = (after_taken _ _ _ _ _ _ _ _ _ _
-    c.append_after_plan-plan.ensures.result c.if-fault-ne0.false _ _ c.fill_message.ensures.result) }
+    record {
+      result = (after_taken _ _ _ _ _ _ _ _ _ _
+          c.append_after_plan-plan.ensures.result c.if-fault-ne0.false _ _ c.fill_message.ensures.result);
+    }

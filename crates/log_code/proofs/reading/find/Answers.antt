@@ -34,5 +34,7 @@ part_in-requires c =
 pub returns : goal.returns
 unfolding part_says
 returns c =
-    record { result = (find_taken _ _ _ c.read_fault-fault.ensures c.if-fault-ne0.false _ _ _ c.cell_count-k.ensures.result refl
-    c.part_in.ensures) }
+    record {
+      result = (find_taken _ _ _ c.read_fault-fault.ensures c.if-fault-ne0.false _ _ _ c.cell_count-k.ensures.result refl
+          c.part_in.ensures);
+    }

@@ -1,5 +1,4 @@
 -- Answers of `log_code::reading::message_part`.
-use borrow.Author.Rules.{rules}
 use Rattle.message_log.proofs.Readings.{part_is}
 use Rattle.log_code.proofs.reading.message_part.Goals as goal
 

@@ -1,7 +1,6 @@
 -- Answers of `log_code::reading::read`.
 use mathlib.Core.Path.{refl}
 use native.Mathlib.Omega.{arith}
-use borrow.Author.Rules.{rules}
 use Rattle.message_log.proofs.Readings.{part_refused, part_cells, part_readable, part_taken}
 use Rattle.log_code.proofs.reading.read.Goals as goal
 
@@ -19,5 +18,7 @@ message_part-requires c =
 
 pub returns : goal.returns
 returns c =
-    record { result = (part_taken _ _ _ c.read_fault-fault.ensures c.if-fault-ne0.false _ _ _ c.cell_count-k.ensures.result refl
-    c.message_part.ensures) }
+    record {
+      result = (part_taken _ _ _ c.read_fault-fault.ensures c.if-fault-ne0.false _ _ _ c.cell_count-k.ensures.result refl
+          c.message_part.ensures);
+    }

@@ -1,5 +1,4 @@
 -- Answers of `log_code::reading::read_fault`.
-use borrow.Author.Rules.{rules}
 use Rattle.message_log.proofs.Parts.{cells_by}
 use Rattle.message_log.proofs.Readings.{read_no_area, read_accepted, read_not_shown}
 use Rattle.log_code.proofs.reading.read_fault.Goals as goal

@@ -34,8 +34,10 @@ short_fault-fault-requires c =
 pub returns-then-fault-ne0 : goal.returns-then-fault-ne0
 unfolding log_answer
 returns-then-fault-ne0 c =
-    record { result = (recover_short _ _ _ _ c.cell_count-k.ensures.result c.if-k-eq0.false _ _ _
-    c.highest_number-top.ensures.result c.count_invalidations-count.ensures.result c.short_fault-fault.ensures.result c.if-fault-ne0.true) }
+    record {
+      result = (recover_short _ _ _ _ c.cell_count-k.ensures.result c.if-k-eq0.false _ _ _
+          c.highest_number-top.ensures.result c.count_invalidations-count.ensures.result c.short_fault-fault.ensures.result c.if-fault-ne0.true);
+    }
 
 pub fill_invalidations-requires : goal.fill_invalidations-requires
 unfolding log_answer
@@ -48,6 +50,8 @@ fill_invalidations-requires c =
 pub returns : goal.returns
 unfolding log_answer
 returns c =
-    record { result = (recover_done _ _ _ _ c.cell_count-k.ensures.result c.if-k-eq0.false _ _ _
-    c.highest_number-top.ensures.result c.count_invalidations-count.ensures.result
-    c.short_fault-fault.ensures.result _ _ c.if-fault-ne0.false c.fill_invalidations.ensures.result) }
+    record {
+      result = (recover_done _ _ _ _ c.cell_count-k.ensures.result c.if-k-eq0.false _ _ _
+          c.highest_number-top.ensures.result c.count_invalidations-count.ensures.result
+          c.short_fault-fault.ensures.result _ _ c.if-fault-ne0.false c.fill_invalidations.ensures.result);
+    }

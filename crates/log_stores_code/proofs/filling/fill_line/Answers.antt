@@ -1,9 +1,7 @@
 -- Answers of `log_stores_code::filling::fill_line`.
 use mathlib.Core.Path.{refl}
-use Prim.Native.Nat.{◌-◌, ◌*◌}
 use borrow.Author.Rules.{rules}
-use Rattle.message_log.proofs.Fillings.{RunFilling, fill_start, fill_next, fill_end}
-use Rattle.message_log.specs.Append.{message_line}
+use Rattle.message_log.proofs.Fillings.{fill_start, fill_next, fill_end}
 use Rattle.log_stores_code.proofs.filling.fill_line.Goals as goal
 
 pub loop-j-init : goal.loop-j-init

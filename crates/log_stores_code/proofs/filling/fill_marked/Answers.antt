@@ -1,11 +1,8 @@
 -- Answers of `log_stores_code::filling::fill_marked`.
 use mathlib.Core.Path.{refl}
-use Prim.Native.Nat.{◌-◌, ◌*◌}
 use native.Mathlib.Omega.{arith}
 use borrow.Author.Rules.{rules}
-use Rattle.stores.specs.Written.{marked}
-use Rattle.message_log.proofs.Fillings.{RunFilling, fill_start, fill_next, fill_end}
-use Rattle.message_log.specs.Append.{marked_body}
+use Rattle.message_log.proofs.Fillings.{fill_start, fill_next, fill_end}
 use Rattle.log_stores_code.proofs.filling.fill_marked.Goals as goal
 
 pub loop-j-init : goal.loop-j-init

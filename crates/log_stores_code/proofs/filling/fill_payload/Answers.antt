@@ -1,12 +1,11 @@
 -- Answers of `log_stores_code::filling::fill_payload`.
 use mathlib.Core.Path.{refl, ap, ◌∙◌}
-use Prim.Native.Nat.{◌-◌}
 use native.Mathlib.Omega.{arith}
 use borrow.Author.Rules.{rules}
 use Rattle.words.specs.Word.{word}
 use Rattle.message_log.specs.Bit.{store_count}
 use Rattle.message_log.proofs.Pairs.{pair_within}
-use Rattle.message_log.proofs.Plans.{Paying, pay_start, pay_next, pay_few, pay_room, pay_end}
+use Rattle.message_log.proofs.Plans.{pay_start, pay_next, pay_few, pay_room, pay_end}
 use Rattle.log_stores_code.proofs.filling.fill_payload.Goals as goal
 
 pub loop-i-init : goal.loop-i-init

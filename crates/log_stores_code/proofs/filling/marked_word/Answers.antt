@@ -1,5 +1,4 @@
 -- Answers of `log_stores_code::filling::marked_word`.
-use borrow.Author.Rules.{rules}
 use Rattle.message_log.proofs.Fillings.{word_first, word_last, word_size, word_pairs, word_zero}
 use Rattle.log_stores_code.proofs.filling.marked_word.Goals as goal
 

@@ -1,6 +1,6 @@
 -- Answers of `log_stores_code::invalidation::count_invalidations`.
 use borrow.Author.Rules.{rules}
-use Rattle.message_log.proofs.Recoveries.{Counting, count_start, count_above, count_passed, count-end}
+use Rattle.message_log.proofs.Recoveries.{count_start, count_above, count_passed, count-end}
 use Rattle.log_stores_code.proofs.invalidation.count_invalidations.Goals.{then-is_above, else-is_above}
 use Rattle.log_stores_code.proofs.invalidation.count_invalidations.Goals as goal
 

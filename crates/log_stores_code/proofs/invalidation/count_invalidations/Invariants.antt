@@ -1,9 +1,7 @@
 -- Invariants and measures of `log_stores_code::invalidation::count_invalidations`.
-use mathlib.Core.Logic.{⊎_elim}
 use Prim.Native.Nat.{◌-◌}
-use borrow.Author.Rules.{rules}
 use Rattle.words.specs.Word.{word}
-use Rattle.message_log.proofs.Recoveries.{Counting, count_start, count_above, count_passed, count-end}
+use Rattle.message_log.proofs.Recoveries.{Counting}
 use Rattle.log_stores_code.proofs.invalidation.count_invalidations.Given as goal
 
 -- `log_stores_code::invalidation::count_invalidations` meets its contract. Assumes nothing.

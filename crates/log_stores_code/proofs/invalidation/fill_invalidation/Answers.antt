@@ -1,6 +1,5 @@
 -- Answers of `log_stores_code::invalidation::fill_invalidation`.
 use mathlib.Core.Path.{refl, ap, ◌∙◌}
-use borrow.Author.Rules.{rules}
 use Rattle.layout.specs.Line.{first_word}
 use Rattle.message_log.proofs.Recoveries.{open_room, open_taken, open_skipped}
 use Rattle.log_stores_code.proofs.invalidation.fill_invalidation.Goals as goal

@@ -1,9 +1,7 @@
 -- Answers of `log_stores_code::invalidation::fill_invalidations`.
-use Prim.Native.Nat.{◌-◌}
 use native.Mathlib.Omega.{arith}
 use borrow.Author.Rules.{rules}
-use Rattle.words.specs.Word.{word}
-use Rattle.message_log.proofs.Recoveries.{Invalidation, invalidating_start, invalidating_next, invalidating_end, invalidating_room}
+use Rattle.message_log.proofs.Recoveries.{invalidating_start, invalidating_next, invalidating_end, invalidating_room}
 use Rattle.log_stores_code.proofs.invalidation.fill_invalidations.Goals as goal
 
 pub loop-c-init : goal.loop-c-init

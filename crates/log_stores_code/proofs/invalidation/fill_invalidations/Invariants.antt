@@ -1,9 +1,7 @@
 -- Invariants and measures of `log_stores_code::invalidation::fill_invalidations`.
 use Prim.Native.Nat.{◌-◌}
-use native.Mathlib.Omega.{arith}
-use borrow.Author.Rules.{rules}
 use Rattle.words.specs.Word.{word}
-use Rattle.message_log.proofs.Recoveries.{Invalidation, invalidating_start, invalidating_next, invalidating_end, invalidating_room}
+use Rattle.message_log.proofs.Recoveries.{Invalidation}
 use Rattle.log_stores_code.proofs.invalidation.fill_invalidations.Given as goal
 
 -- `log_stores_code::invalidation::fill_invalidations` meets its contract. Assumes nothing.

@@ -1,5 +1,4 @@
 -- Answers of `log_stores_code::invalidation::is_above`.
-use borrow.Author.Rules.{rules}
 use Rattle.message_log.proofs.Recoveries.{above_open, above_whole}
 use Rattle.log_stores_code.proofs.invalidation.is_above.Goals as goal
 

@@ -1,7 +1,6 @@
 -- Answers of `log_stores_code::planning::append_after_plan`.
 use mathlib.Core.Path.{refl}
 use native.Mathlib.Omega.{arith}
-use borrow.Author.Rules.{rules}
 use Rattle.message_log.proofs.Plans.{number_low, plan_no_area, plan_no_message, plan_no_number, cell_room, plan_done}
 use Rattle.log_stores_code.proofs.planning.append_after_plan.Goals as goal
 
@@ -11,14 +10,18 @@ returns-then-k-eq0 c =
 
 pub returns-then-unfit-ne0 : goal.returns-then-unfit-ne0
 returns-then-unfit-ne0 c =
-    record { result = (plan_no_message _ _ _ _ _ _ c.cell_count-k.ensures.result
-    c.if-k-eq0.false _ c.message_fault-unfit.ensures _ _ _ _ _ c.if-unfit-ne0.true c.no_plan-then-unfit-ne0.ensures) }
+    record {
+      result = (plan_no_message _ _ _ _ _ _ c.cell_count-k.ensures.result
+          c.if-k-eq0.false _ c.message_fault-unfit.ensures _ _ _ _ _ c.if-unfit-ne0.true c.no_plan-then-unfit-ne0.ensures);
+    }
 
 pub returns-then-over-ne0 : goal.returns-then-over-ne0
 returns-then-over-ne0 c =
-    record { result = (plan_no_number _ _ _ _ _ _
-    c.cell_count-k.ensures.result c.if-k-eq0.false _ c.message_fault-unfit.ensures
-    c.if-unfit-ne0.false _ c.number_fault-over.ensures _ _ _ _ _ c.if-over-ne0.true c.no_plan-then-over-ne0.ensures) }
+    record {
+      result = (plan_no_number _ _ _ _ _ _
+          c.cell_count-k.ensures.result c.if-k-eq0.false _ c.message_fault-unfit.ensures
+          c.if-unfit-ne0.false _ c.number_fault-over.ensures _ _ _ _ _ c.if-over-ne0.true c.no_plan-then-over-ne0.ensures);
+    }
 
 pub overflow_add-number : goal.overflow_add-number
 overflow_add-number c =
@@ -32,6 +35,8 @@ payload_plan-payload-requires c =
 
 pub returns : goal.returns
 returns c =
-    record { result = (plan_done _ _ _ _ _ _ c.cell_count-k.ensures.result
-    c.if-k-eq0.false _ c.message_fault-unfit.ensures c.if-unfit-ne0.false _
-    c.number_fault-over.ensures c.if-over-ne0.false _ refl _ _ c.payload_plan-payload.ensures _ c.short_fault.ensures.result) }
+    record {
+      result = (plan_done _ _ _ _ _ _ c.cell_count-k.ensures.result
+          c.if-k-eq0.false _ c.message_fault-unfit.ensures c.if-unfit-ne0.false _
+          c.number_fault-over.ensures c.if-over-ne0.false _ refl _ _ c.payload_plan-payload.ensures _ c.short_fault.ensures.result);
+    }

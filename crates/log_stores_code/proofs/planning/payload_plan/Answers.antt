@@ -6,7 +6,7 @@ use Rattle.words.proofs.Laws.{word_range}
 use Rattle.words.specs.Word.{word}
 use Rattle.message_log.specs.Bit.{store_count}
 use Rattle.message_log.proofs.Pairs.{pair_within}
-use Rattle.message_log.proofs.Plans.{Planning, plan_start, plan_next, plan_room, count_room, plan_end}
+use Rattle.message_log.proofs.Plans.{plan_start, plan_next, plan_room, count_room, plan_end}
 use Rattle.log_stores_code.proofs.planning.payload_plan.Goals as goal
 
 pub loop-left-init : goal.loop-left-init

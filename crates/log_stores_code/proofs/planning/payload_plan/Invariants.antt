@@ -1,12 +1,6 @@
 -- Invariants and measures of `log_stores_code::planning::payload_plan`.
-use mathlib.Core.Path.{refl, ap, ◌∙◌}
-use native.Mathlib.Omega.{arith}
-use borrow.Author.Rules.{rules}
-use Rattle.words.proofs.Laws.{word_range}
 use Rattle.words.specs.Word.{word}
-use Rattle.message_log.specs.Bit.{store_count}
-use Rattle.message_log.proofs.Pairs.{pair_within}
-use Rattle.message_log.proofs.Plans.{Planning, plan_start, plan_next, plan_room, count_room, plan_end}
+use Rattle.message_log.proofs.Plans.{Planning}
 use Rattle.log_stores_code.proofs.planning.payload_plan.Given as goal
 
 -- `log_stores_code::planning::payload_plan` meets its contract. Assumes nothing.
