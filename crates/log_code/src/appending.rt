@@ -1,26 +1,19 @@
 // Append: the plan, the stores and the answer.
 ghost use Rattle.std.specs.Prelude.{◌≡◌};
 ghost use Rattle.message_log.specs.LogOutcome.{log_answer, log_end};
-ghost use Rattle.message_log.specs.Append.{append_after_result, append_result};
+ghost use Rattle.message_log.specs.Append.{append_result};
 
-use message_log::LogOutcome;
-use log_cell_code::cells::{cell_count, highest_number};
 use log_stores_code::filling::fill_message;
 use log_stores_code::planning::append_plan;
+use message_log::LogOutcome;
 
-// Appends a message after this number, which may be any: the number one above it and the count of its stores, which
-// fill the front of the lists; or the refusal, which changes nothing.
-pub fn append_after(
-    area: &[u8],
-    last: u64,
-    message: &[u8],
-    at: &mut [u32],
-    value: &mut [u64],
-) -> LogOutcome
+// Appends a message: its number and the count of its stores, which fill the front of the lists; or the refusal, which
+// changes nothing.
+pub fn append(area: &[u8], message: &[u8], at: &mut [u32], value: &mut [u64]) -> LogOutcome
     ensures result { log_end (log_answer result) at.new value.new
-        ≡ append_after_result area.now last message.now at.old value.old }
+        ≡ append_result area.now message.now at.old value.old }
 {
-    let plan = append_plan(area, last, message, at.len(), value.len());
+    let plan = append_plan(area, message, at.len(), value.len());
     let fault = plan.fault;
     if fault != 0 {
         return LogOutcome::Refused(fault);
@@ -30,16 +23,4 @@ pub fn append_after(
         number: plan.number,
         count: plan.count,
     }
-}
-
-// Appends a message after the highest complete number, which is looked for in all cells.
-pub fn append(area: &[u8], message: &[u8], at: &mut [u32], value: &mut [u64]) -> LogOutcome
-    ensures result { log_end (log_answer result) at.new value.new
-        ≡ append_result area.now message.now at.old value.old }
-{
-    let k = cell_count(area.len());
-    if k == 0 {
-        return LogOutcome::Refused(30);
-    }
-    append_after(area, highest_number(area, k), message, at, value)
 }

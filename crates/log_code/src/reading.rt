@@ -7,8 +7,8 @@ ghost use Rattle.message_log.specs.Message.{message_start, message_in};
 ghost use Rattle.message_log.specs.Read.{read_fault, read_end, read_result, part_says, part_result};
 ghost use Rattle.message_log.specs.inner.Needs.{Readable};
 
-use message_log::Part;
 use log_cell_code::cells::{cell_count, is_shown};
+use message_log::Part;
 use words_code::read_word;
 
 // 30 or 31, else 0.

@@ -3,10 +3,10 @@ ghost use Rattle.std.specs.Prelude.{◌≡◌};
 ghost use Rattle.message_log.specs.LogOutcome.{log_answer, log_end};
 ghost use Rattle.message_log.specs.Recover.{log_recover_result};
 
-use message_log::LogOutcome;
 use log_cell_code::cells::{cell_count, highest_number};
 use log_stores_code::filling::short_fault;
 use log_stores_code::invalidation::{count_invalidations, fill_invalidations};
+use message_log::LogOutcome;
 
 // Recovers the log: the highest complete number and the count of the stores, which fill the front of the lists; or the
 // refusal, which changes nothing.

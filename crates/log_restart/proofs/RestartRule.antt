@@ -25,12 +25,13 @@ use Rattle.message_log.specs.Recover.{recovery_stores, log_recover_fault}
 use Rattle.message_log.specs.Event.{LogCall, an_append, a_read, a_recovery, log_stores, area_done, area_cut, Messages, expected_log_refusal, is_torn, plain_append, FitsCall}
 use Rattle.message_log.specs.Event.{append_fits, read_fits, recovery_fits}
 use Rattle.message_log.proofs.Inside.{accepted, append_inside_area, recovery_inside_area}
-use Rattle.message_log.proofs.Claims.{Keeping, cells_fine, recovery_right, call_right}
+use Rattle.message_log.proofs.Claims.{Keeping, cells_fine, call_right, call_after_right}
 use Rattle.message_log.proofs.Events.{done_keeps, done_last, done_closed_after, cut_keeps, cut_recovery_keeps, recovery_done_keeps, restart_closed, restart_last}
 use Rattle.message_log.proofs.LogRule.{Good, closed_by, closed_in, blank_good}
 use Rattle.restart_machine.proofs.defs.Laws.{Inside, Laws}
 use Rattle.restart_machine.proofs.RestartRule.{restart_rule}
-use Rattle.log_restart.specs.Log.{log_library, log_promise, LogRestartRule}
+use Rattle.log_restart.specs.Log.{LentLists, LogRequest, log_library, log_promise, LogRestartRule}
+use Rattle.log_restart.specs.LogAfter.{log_library_after, log_promise_after, LogRestartRuleAfter}
 
 -- ---- an append is torn where not all its stores stand
 
@@ -114,45 +115,79 @@ module _ (cells : ℕ) (low : 2 ≤ cells) where
       (lines_below area log good.keep (log_stores area call) (call_inside area log good.keep call fits))))
       (cut_keeps cells low area log good.keep call counts fits (closed_in cells low area log good))
 
-  -- an area in use, with what the program holds
-  abbrev InUse : (area : List ℕ) → (held : ℕ) → Messages → Type 0
-  InUse area held log = Good cells area log × (held ≡ length log)
+  -- a good area is kept
+  recovery_good : (area : List ℕ) (log : Messages) → Keeping cells area log → (lent : LentLists cells)
+      → Good cells (played (log_stores area (a_recovery lent.at lent.value)) area) log
+  unfolding area_done
+  recovery_good area log keep lent =
+      record {
+        keep = recovery_done_keeps cells low area log keep lent.at lent.value;
+        closed = closed_by cells low area _ log keep (restart_closed cells low area log keep lent.at lent.value lent.enough.0 lent.enough.1);
+      }
+
+  request_good : (area : List ℕ) (log : Messages) → Good cells area log → (asked : LogRequest)
+      → Good cells (played (log_stores area asked.call) area) (plain_append (refuses (expected_log_refusal area log asked.call)) false asked.call log)
+  unfolding area_done
+  request_good area log good asked =
+      let closed = closed_in cells low area log good in
+      record {
+        keep = done_keeps cells low area log good.keep asked.call asked.fits closed;
+        closed = closed_by cells low area _ log good.keep (done_closed_after cells low area log good.keep asked.call asked.fits closed);
+      }
 
   -- THE LAWS of the log as a library of the machine
-  library_laws : Laws (log_library cells) (log_promise cells) (Keeping cells) InUse
-  unfolding area_cut area_done
+  library_laws : Laws (log_library cells) (log_promise cells) (Keeping cells) (λ area held log. Good cells area log)
+  unfolding area_cut
   library_laws =
       record {
         recovers = λ area log keep. keep.shows;
-        recovery_right = λ area log keep lent. recovery_right cells low area log keep lent.at lent.value;
+        recovery_right = λ area log keep lent. call_right cells low area log keep (a_recovery lent.at lent.value) recovery_fits;
+        recovery_inside = λ area log keep lent.
+            words_inside (length area) _ (call_inside area log keep (a_recovery lent.at lent.value) recovery_fits);
+        recovery_part = λ area log keep lent counts.
+            cut_recovery_keeps cells low area log keep (record { at = lent.at; value = lent.value; counts = counts });
+        recovery_done = recovery_good;
+        use_ready = λ area held log good. good.keep;
+        request_right = λ area held log good asked. call_right cells low area log good.keep asked.call asked.fits;
+        request_inside = λ area held log good asked. words_inside (length area) _ (call_inside area log good.keep asked.call asked.fits);
+        request_part = λ area held log good asked counts. part_keeps area log good asked.call asked.fits counts;
+        request_done = λ area held log good asked. request_good area log good asked;
+      }
+
+  -- and with what the program holds, which counts the messages
+  abbrev InUse : (area : List ℕ) → (held : ℕ) → Messages → Type 0
+  InUse area held log = Good cells area log × (held ≡ length log)
+
+  library_laws_after : Laws (log_library_after cells) (log_promise_after cells) (Keeping cells) InUse
+  unfolding area_cut
+  library_laws_after =
+      record {
+        recovers = λ area log keep. keep.shows;
+        recovery_right = λ area log keep lent. call_right cells low area log keep (a_recovery lent.at lent.value) recovery_fits;
         recovery_inside = λ area log keep lent.
             words_inside (length area) _ (call_inside area log keep (a_recovery lent.at lent.value) recovery_fits);
         recovery_part = λ area log keep lent counts.
             cut_recovery_keeps cells low area log keep (record { at = lent.at; value = lent.value; counts = counts });
         recovery_done = λ area log keep lent. (
-          record {
-            keep = recovery_done_keeps cells low area log keep lent.at lent.value;
-            closed =
-                closed_by cells low area _ log keep (restart_closed cells low area log keep lent.at lent.value lent.enough.0 lent.enough.1);
-          },
+          recovery_good area log keep lent,
           restart_last cells low area log keep 0 lent.at lent.value lent.enough.0 lent.enough.1,
         );
         use_ready = λ area held log good. good.0.keep;
-        request_right = λ area held log good asked. call_right cells low area log good.0.keep held good.1 asked.call asked.fits;
+        request_right = λ area held log good asked. call_after_right cells low area log good.0.keep held good.1 asked.call asked.fits;
         request_inside = λ area held log good asked. words_inside (length area) _ (call_inside area log good.0.keep asked.call asked.fits);
         request_part = λ area held log good asked counts. part_keeps area log good.0 asked.call asked.fits counts;
-        request_done = λ area held log good asked.
-            let closed = closed_in cells low area log good.0 in (
-              record {
-                keep = done_keeps cells low area log good.0.keep asked.call asked.fits closed;
-                closed =
-                    closed_by cells low area _ log good.0.keep (done_closed_after cells low area log good.0.keep asked.call asked.fits closed);
-              },
-              done_last cells low area log good.0.keep asked.call asked.fits closed held good.1,
-            );
+        request_done = λ area held log good asked. (
+          request_good area log good.0 asked,
+          done_last cells low area log good.0.keep asked.call asked.fits (closed_in cells low area log good.0) held good.1,
+        );
       }
 
 -- THE RESTART RULE OF THE LOG
 pub log_restart_rule : LogRestartRule
 log_restart_rule cells low high d done =
     restart_rule (log_promise cells) (log_library cells) _ _ (library_laws cells low) d done _ [] (blank_good cells low high).keep
+
+-- and with append_after
+pub log_restart_rule_after : LogRestartRuleAfter
+log_restart_rule_after cells low high d done =
+    restart_rule (log_promise_after cells) (log_library_after cells) _ _ (library_laws_after cells low) d done _ [] (blank_good cells low high).keep

@@ -1,5 +1,4 @@
 // The stores of an append and of a recovery of the log, at the front of the lent lists.
-
 #![tactic(auto)]
 
 pub mod filling;

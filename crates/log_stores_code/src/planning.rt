@@ -2,12 +2,12 @@
 ghost use Rattle.std.specs.Prelude.{◌≡◌, ℕ, suc, ◌+◌, ◌*◌, ◌≤◌, length};
 ghost use Rattle.layout.specs.Line.{version_fault};
 ghost use Rattle.message_log.specs.Append.{message_fault};
-ghost use Rattle.message_log.specs.inner.Needs.{PayloadPlanned, AppendPlanned};
+ghost use Rattle.message_log.specs.inner.Needs.{PayloadPlanned, AppendPlanned, AppendAfterPlanned};
 
 use crate::filling::short_fault;
-use message_log::{AppendPlan, Payload};
 use log_cell_code::bit::{differing_word, line_pair, store_count};
-use log_cell_code::cells::cell_count;
+use log_cell_code::cells::{cell_count, highest_number};
+use message_log::{AppendPlan, Payload};
 
 // 29 where a message of this size is empty or over 384 bytes, else 0.
 fn message_fault(size: usize) -> u32
@@ -65,8 +65,14 @@ fn number_fault(last: u64) -> u32
 }
 
 // The plan of an append after this number, to lists of ats and vals entries.
-pub fn append_plan(area: &[u8], last: u64, message: &[u8], ats: usize, vals: usize) -> AppendPlan
-    ensures result { AppendPlanned area.now last message.now ats vals result.fault result.number result.cell result.pairs result.count }
+pub fn append_after_plan(
+    area: &[u8],
+    last: u64,
+    message: &[u8],
+    ats: usize,
+    vals: usize,
+) -> AppendPlan
+    ensures result { AppendAfterPlanned area.now last message.now ats vals result.fault result.number result.cell result.pairs result.count }
 {
     let k = cell_count(area.len());
     if k == 0 {
@@ -91,4 +97,15 @@ pub fn append_plan(area: &[u8], last: u64, message: &[u8], ats: usize, vals: usi
         pairs: payload.pairs,
         count,
     }
+}
+
+// The plan of an append to lists of ats and vals entries: of one after the highest complete number.
+pub fn append_plan(area: &[u8], message: &[u8], ats: usize, vals: usize) -> AppendPlan
+    ensures result { AppendPlanned area.now message.now ats vals result.fault result.number result.cell result.pairs result.count }
+{
+    let k = cell_count(area.len());
+    if k == 0 {
+        return no_plan(30);
+    }
+    append_after_plan(area, highest_number(area, k), message, ats, vals)
 }

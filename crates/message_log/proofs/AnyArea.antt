@@ -20,11 +20,11 @@ use Rattle.stores.specs.Cut.{after_cut}
 use Rattle.stores.proofs.Bytes.{played-length, played_bytes, struck_words}
 use Rattle.message_log.specs.Area.{cells_of, cells_in, area_fault, marked_line}
 use Rattle.message_log.specs.Message.{is_complete, highest, in_window, shown, message_start, message_in}
-use Rattle.message_log.specs.Append.{append_after_stores, next_message, append_stores, append_result}
+use Rattle.message_log.specs.Append.{next_message, append_stores}
 use Rattle.message_log.specs.Recover.{recovery_stores}
 use Rattle.message_log.specs.Read.{read_part}
 use Rattle.message_log.specs.Event.{is_torn}
-use Rattle.message_log.specs.Laws.{ShowsSame, ShowsMore, RecoveryKeeps, Closed, whole_there, wholly_absent, AppendLeaves, AppendAllOrNone, AfterHighest}
+use Rattle.message_log.specs.Laws.{ShowsSame, ShowsMore, RecoveryKeeps, Closed, whole_there, wholly_absent, AppendLeaves, AppendAllOrNone}
 use Rattle.message_log.specs.inner.Needs.{CellCount}
 use Rattle.message_log.proofs.Cells.{held, same_holds, Window, window, in-window}
 use Rattle.message_log.proofs.Appends.{AllStand, on_other}
@@ -199,7 +199,7 @@ module _ (area message : List ℕ) (bytes : AreBytes area) (are-bytes : AreBytes
   -- lines of other cells have no store
   pub all-stand : is_torn counts (append_stores (cells_in area) (word area) message) (7 * cells_in area) ≡ false
       → AllStand counts (append_stores (cells_in area) (word area) message)
-  unfolding is_torn append_stores append_after_stores next_message
+  unfolding is_torn append_stores
   all-stand e n =
       by_cases (dec_lt n (7 * cells_in area))
       (λ l.
@@ -243,8 +243,3 @@ module _ (area message : List ℕ) (bytes : AreBytes area) (are-bytes : AreBytes
 pub append_all_or_none : AppendAllOrNone
 append_all_or_none area message bytes are-bytes closed ats vals z counts =
     append_leaves area message bytes are-bytes (accepted area message ats vals z) counts closed
-
--- AFTER THE HIGHEST NUMBER append_after is append
-pub after_highest : AfterHighest
-unfolding append_result
-after_highest area message at value = refl

@@ -24,13 +24,15 @@ use Rattle.stores.proofs.Lists.{zipped_back, numbers-length, values_length, list
 use Rattle.message_log.specs.Area.{cells_of, cells_in, area_fault}
 use Rattle.message_log.specs.Message.{is_complete, highest, in_window, shown}
 use Rattle.message_log.specs.LogOutcome.{short_fault, LogResult, handing, LogListResult, handing_list}
-use Rattle.message_log.specs.Append.{message_fault, append_after_fault, append_after_result, next_message, append_stores, append_fault, append_result}
+use Rattle.message_log.specs.AppendAfter.{append_after_result}
+use Rattle.message_log.specs.Append.{message_fault, next_message, append_stores, append_fault, append_result}
 use Rattle.message_log.specs.Recover.{recovery_stores, log_recover_fault, log_recover_result, log_recover_list_result}
 use Rattle.message_log.specs.Read.{read_fault, read_part, read_end, read_result, part_result}
 use Rattle.message_log.specs.Event.{LogCall, an_append, a_read, a_recovery, log_stores, area_done, area_cut, Messages, expected_log_refusal, FitsCall, append_fits}
 use Rattle.message_log.specs.Event.{read_fits, recovery_fits}
 use Rattle.message_log.specs.Rule.{shown_up_to, shown_messages, last_messages, PartHolds, Shows, count_given, HandsOut}
-use Rattle.message_log.specs.Rule.{LogRecoveryCorrect, LogCallCorrect, StandingPlays}
+use Rattle.message_log.specs.Rule.{LogCallCorrect, StandingPlays}
+use Rattle.message_log.specs.RuleAfter.{LogCallAfterCorrect}
 use Rattle.message_log.specs.Laws.{ShowsSame, ShowsMore}
 use Rattle.message_log.proofs.Cells.{Window, window, in-window}
 use Rattle.message_log.proofs.Invalidations.{recovery_few}
@@ -38,7 +40,7 @@ use Rattle.message_log.proofs.Parts.{read-fault, read_hidden}
 use Rattle.message_log.proofs.Readings.{part_holds, no_part}
 use Rattle.message_log.proofs.Lists.{append_agrees, recovery_agrees}
 use Rattle.message_log.proofs.Inside.{accepted, append_inside_area, recovery_inside_area}
-use Rattle.message_log.proofs.AnyArea.{after_highest}
+use Rattle.message_log.proofs.AppendAfter.{after_highest}
 
 -- an area of `cells` cells that shows the last messages of the list
 pub record Keeping (cells : ℕ) (area : List ℕ) (log : Messages) : Type 0 where
@@ -203,14 +205,14 @@ module _ (cells : ℕ) (low : 2 ≤ cells) (area : List ℕ) (log : Messages) (k
 
   pub append_due : (message at value : List ℕ)
       → append_fault area message (length at) (length value) ≡ expected_log_refusal area log (an_append message at value)
-  unfolding append_fault append_after_fault append_stores expected_log_refusal
+  unfolding append_fault expected_log_refusal
   append_due message at value =
       or_else_later (area_fault area) _ area_fine
       ∙ ap
       (λ (n : ℕ).
       or_else (message_fault (length message))
-      (or_else (version_fault (suc n)) (short_fault (length (append_stores (cells_in area) (word area) message)) (length at) (length value))))
-      top_in
+      (or_else (version_fault n) (short_fault (length (append_stores (cells_in area) (word area) message)) (length at) (length value))))
+      next-in
 
   pub recover_due : (at value : List ℕ) → log_recover_fault area (length at) (length value) ≡ expected_log_refusal area log (a_recovery at value)
   unfolding log_recover_fault expected_log_refusal
@@ -238,32 +240,33 @@ module _ (cells : ℕ) (low : 2 ≤ cells) (area : List ℕ) (log : Messages) (k
           read_hidden area area_fine s (shown_in s ∙ e)
           ∙ sym (ap (λ (t : Bool). unless_refused (refuse_if (not t) 31 0) (get_or log (s - 1) []) []) e)
 
-  -- append_after, lent the last number
-  after_agrees : (last : ℕ) → last ≡ length log → (message at value : List ℕ)
-      → append_after_result area last message at value ≡ append_result area message at value
-  after_agrees last e message at value = ap (λ (n : ℕ). append_after_result area n message at value) (e ∙ sym top_in) ∙ after_highest area message at value
-
   -- EACH CALL IS RIGHT
-  pub recovery_right : (at value : List ℕ) → LogRecoveryCorrect area log at value
-  unfolding log_recover_result log_stores
-  recovery_right at value = (
+  pub call_right : (call : LogCall) → FitsCall call → LogCallCorrect area log call
+  unfolding LogCallCorrect append_result log_recover_result read_result log_stores
+  call_right (an_append message at value) (append_fits are-bytes) = (
+    hands_due area (an_append message at value) (append_stores (cells_in area) (word area) message) at value
+        (append_fault area message (length at) (length value)) (next_message (cells_in area) (word area)) _ _ (append_due message at value) next-in refl
+        (λ z. append_inside_area area message keep.bytes are-bytes (accepted area message (length at) (length value) z)),
+    append_agrees area message at value,
+  )
+  call_right (a_read number) read_fits = ap₂ read_end (read-part number) (read_due number)
+  call_right (a_recovery at value) recovery_fits = (
     hands_due area (a_recovery at value) (recovery_stores (cells_in area) (word area)) at value
         (log_recover_fault area (length at) (length value)) (highest (cells_in area) (word area)) _ _ (recover_due at value) top_in refl
         (λ z. recovery_inside_area area area_fine),
     recovery_agrees area at value,
   )
 
-  pub call_right : (last : ℕ) → last ≡ length log → (call : LogCall) → FitsCall call → LogCallCorrect area last log call
-  unfolding LogCallCorrect append_result append_after_result append_fault append_stores next_message read_result log_stores
-  call_right last counted (an_append message at value) (append_fits are-bytes) = (
-    hands_due area (an_append message at value) (append_stores (cells_in area) (word area) message) at value
-        (append_fault area message (length at) (length value)) (next_message (cells_in area) (word area)) _ _ (append_due message at value) next-in refl
-        (λ z. append_inside_area area message keep.bytes are-bytes (accepted area message (length at) (length value) z)),
-    append_agrees area message at value,
-    after_agrees last counted message at value,
-  )
-  call_right last counted (a_read number) read_fits = ap₂ read_end (read-part number) (read_due number)
-  call_right last counted (a_recovery at value) recovery_fits = recovery_right at value
+  -- append_after, lent the last number
+  after_agrees : (last : ℕ) → last ≡ length log → (message at value : List ℕ)
+      → append_after_result area last message at value ≡ append_result area message at value
+  after_agrees last e message at value = ap (λ (n : ℕ). append_after_result area n message at value) (e ∙ sym top_in) ∙ after_highest.result area message at value
+
+  pub call_after_right : (last : ℕ) → last ≡ length log → (call : LogCall) → FitsCall call → LogCallAfterCorrect area last log call
+  unfolding LogCallAfterCorrect
+  call_after_right last counted (an_append message at value) fits = (call_right (an_append message at value) fits, after_agrees last counted message at value)
+  call_after_right last counted (a_read number) fits = call_right (a_read number) fits
+  call_after_right last counted (a_recovery at value) fits = call_right (a_recovery at value) fits
 
   -- the stores of each call lie in the area, so any part of them is played
   stores_inside : (call : LogCall) → FitsCall call → StoresInside (length area) (log_stores area call)

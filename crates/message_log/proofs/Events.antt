@@ -21,16 +21,17 @@ use Rattle.stores.proofs.StandingStores.{on_few, all-made}
 use Rattle.stores.proofs.Bytes.{played-length, played_bytes}
 use Rattle.message_log.specs.Area.{cells_in, area_fault}
 use Rattle.message_log.specs.LogOutcome.{handing}
-use Rattle.message_log.specs.Append.{append_after_result, append_stores, append_fault, append_result}
+use Rattle.message_log.specs.Append.{append_stores, append_fault, append_result}
 use Rattle.message_log.specs.Recover.{recovery_stores, log_recover_fault, log_recover_result}
 use Rattle.message_log.specs.Event.{LogCall, an_append, a_read, a_recovery, CutRecovery, log_stores, area_done, area_cut, area_again, area_after_all, Messages}
-use Rattle.message_log.specs.Event.{number_given, last_after_call, expected_log_refusal, is_torn, plain_append, FitsCall, append_fits, read_fits, recovery_fits}
+use Rattle.message_log.specs.Event.{expected_log_refusal, is_torn, plain_append, FitsCall, append_fits, read_fits, recovery_fits}
+use Rattle.message_log.specs.RuleAfter.{number_given, last_after_call}
 use Rattle.message_log.specs.Laws.{Closed, AppendLeaves, whole_there, wholly_absent}
 use Rattle.message_log.proofs.Shown.{recovery_closed, done_closed}
 use Rattle.message_log.proofs.Parts.{area_cells}
 use Rattle.message_log.proofs.Inside.{Accepted, accepted}
 use Rattle.message_log.proofs.AnyArea.{recovery_words, recovery_keeps, append_words, all-stand, append_leaves}
-use Rattle.message_log.proofs.Claims.{Keeping, recovery_accepted, area_fine, top_in, append_due, same_keeps, more_keeps}
+use Rattle.message_log.proofs.Claims.{Keeping, recovery_accepted, area_fine, top_in, next-in, append_due, same_keeps, more_keeps}
 
 -- the number that is held after a call that hands out stores
 number_handed : (held fault number : ℕ) (ss : List Store) (at value : List ℕ)
@@ -192,12 +193,12 @@ module _ (cells : ℕ) (low : 2 ≤ cells) (area : List ℕ) (log : Messages) (k
     append_last : (last : ℕ) → last ≡ length log
         → last_after_call area last (an_append message at value)
         ≡ length (plain_append (refuses (expected_log_refusal area log (an_append message at value))) false (an_append message at value) log)
-    unfolding last_after_call append_result append_after_result append_fault
+    unfolding last_after_call append_result
     append_last last e =
         number_handed last fault _ _ at value
         ∙ by_cases (ℕ_discrete fault 0)
         (λ z.
-        taken_leaves _ last fault z ∙ ap suc (top_in cells low area log keep)
+        taken_leaves _ last fault z ∙ next-in cells low area log keep
         ∙ sym (ap length (taken_plain z false) ∙ length-append log (message ∷ []) ∙ omega arith))
         (λ ne. refused_keeps _ last fault ne ∙ e ∙ sym (ap length (refused_plain ne false)))
       where

@@ -20,7 +20,8 @@ use Rattle.message_log.specs.Area.{cells_in, area_fault, marked_line, payload_li
 use Rattle.message_log.specs.Bit.{bit_pair}
 use Rattle.message_log.specs.Message.{highest}
 use Rattle.message_log.specs.Append.{message_line, line_count, payload_stores, payloads_from, pairs_word, marked_body, message_stores, next_message, append_stores}
-use Rattle.message_log.specs.Append.{message_fault, append_after_stores, append_after_fault, append_fault}
+use Rattle.message_log.specs.Append.{message_fault, append_fault}
+use Rattle.message_log.specs.AppendAfter.{append_after_fault}
 use Rattle.message_log.specs.Recover.{is_above, invalidation, invalidations, recovery_stores}
 use Rattle.message_log.proofs.Flexible.{count_within, pair_low, packed_low}
 use Rattle.message_log.proofs.Parts.{area_cells}
@@ -81,7 +82,7 @@ pub record Accepted (area message : List ℕ) : Type 0 where
   pub number : next_message (cells_in area) (word area) < 2 ^ 63
 
 pub accepted : (area message : List ℕ) (ats vals : ℕ) → append_fault area message ats vals ≡ 0 → Accepted area message
-unfolding append_fault append_after_fault message_fault next_message version_fault
+unfolding append_fault message_fault version_fault
 accepted area message ats vals z =
     let size = or_else_zero _ _ z in
     let rest = or_else_zero _ _ size.1 in
@@ -96,7 +97,7 @@ accepted area message ats vals z =
 
 pub append_inside_area : (area message : List ℕ) → AreBytes area → AreBytes message → Accepted area message
     → StoresInside (length area) (append_stores (cells_in area) (word area) message)
-unfolding append_stores append_after_stores next_message
+unfolding append_stores
 append_inside_area area message bytes are-bytes ok =
     let all = area_cells area ok.area_fine in
     message_inside (word area) (λ i. word_range area i bytes) (next_message (cells_in area) (word area) % cells_in area) message are-bytes (length area)

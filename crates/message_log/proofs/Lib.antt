@@ -7,6 +7,7 @@ pub mod Shown
 pub mod Parts
 pub mod Inside
 pub mod AnyArea
+pub mod AppendAfter
 pub mod Claims
 pub mod Events
 pub mod LogRule

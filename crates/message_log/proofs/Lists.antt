@@ -22,7 +22,7 @@ use Rattle.stores.proofs.ListPut.{zipped-length, front_stores}
 use Rattle.message_log.specs.Area.{cells_in, area_fault}
 use Rattle.message_log.specs.Message.{highest}
 use Rattle.message_log.specs.LogOutcome.{log_answer, short_fault, LogResult, log_end, handing, LogListResult, log_list_end, handing_list}
-use Rattle.message_log.specs.Append.{message_fault, append_after_fault, append_after_result, next_message, append_stores, append_fault, append_result, append_list_result}
+use Rattle.message_log.specs.Append.{message_fault, next_message, append_stores, append_fault, append_result, append_list_result}
 use Rattle.message_log.specs.Recover.{recovery_stores, log_recover_fault, log_recover_result, log_recover_list_result}
 use Rattle.message_log.specs.Rule.{count_given, as_numbers, ListAgrees}
 use Rattle.message_log.specs.inner.List.{stored_count, stores_handed, StoresMade}
@@ -87,18 +87,18 @@ module _ (area : List ℕ) (room : ℕ) (a : LogOutcome) (at₀ value₀ at₁ v
     stores = append_stores (cells_in area) (word area) message
 
     append-fault : append_fault area message (min 56 room) (min 56 room) ≡ append_fault area message room room
-    unfolding append_fault append_after_fault append_stores
+    unfolding append_fault
     append-fault =
-        ap (λ (n : ℕ). or_else (area_fault area) (or_else (message_fault (length message)) (or_else (version_fault (suc (highest (cells_in area) (word area)))) n)))
+        ap (λ (n : ℕ). or_else (area_fault area) (or_else (message_fault (length message)) (or_else (version_fault (next_message (cells_in area) (word area))) n)))
         (short_room (length stores) 56 room (append_few (cells_in area) (word area) message))
 
     append_fits : append_fault area message room room ≡ 0 → length stores ≤ room
-    unfolding append_fault append_after_fault append_stores
+    unfolding append_fault
     append_fits z = held (length stores) room (or_else_zero _ _ (or_else_zero _ _ (or_else_zero _ _ z).1).1).1
 
     pub append_made : length at₀ ≡ min 56 room → length value₀ ≡ min 56 room → log_end (log_answer a) at₁ value₁ ≡ append_result area message at₀ value₀
         → StoresMade 56 room (append_fault area message room room) (next_message (cells_in area) (word area)) stores a stored (at₁ ++ rest) (value₁ ++ rest')
-    unfolding append_result append_after_result append_fault append_stores next_message
+    unfolding append_result
     append_made en em e =
         made 56 room _ _ stores (append_few (cells_in area) (word area) message) append_fits a at₀ value₀ at₁ value₁ rest rest' stored es
         (e ∙ ap (λ (n : ℕ). handing n (next_message (cells_in area) (word area)) stores at₀ value₀) (ap₂ (append_fault area message) en em ∙ append-fault))
@@ -163,7 +163,7 @@ agrees fault number ss at value list ea ev =
     ∙ ap₂ (λ (x y : List ℕ). handing (fault (length x) (length y)) number ss x y) ea ev
 
 pub append_agrees : (area message at value : List ℕ) → ListAgrees at value (append_list_result area message) (append_result area message at value)
-unfolding append_list_result append_result append_after_result append_fault append_stores next_message
+unfolding append_list_result append_result
 append_agrees area message at value =
     agrees (append_fault area message) (next_message (cells_in area) (word area)) (append_stores (cells_in area) (word area) message) at value
 

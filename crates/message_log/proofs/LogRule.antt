@@ -13,13 +13,14 @@ use Rattle.prelude.proofs.Histories.{throughout}
 use Rattle.words.specs.Word.{word}
 use Rattle.message_log.specs.Area.{cells_of, cells_in}
 use Rattle.message_log.specs.Message.{is_complete, highest, in_window, shown}
-use Rattle.message_log.specs.Event.{a_recovery, CutRecovery, LogRestart, LogEvent, call_done, call_cut, area_done, area_after_all, area_after, last_after, LogState}
-use Rattle.message_log.specs.Event.{state_after, Messages, is_missing, messages_after, recovery_fits, FitsEvent, done_fits, cut_fits}
+use Rattle.message_log.specs.Event.{LogCall, a_recovery, CutRecovery, LogRestart, LogEvent, call_done, call_cut, area_done, area_cut, area_after_all, area_after}
+use Rattle.message_log.specs.Event.{Messages, is_missing, messages_after, FitsCall, recovery_fits, FitsEvent, done_fits, cut_fits}
 use Rattle.message_log.specs.Rule.{RestartCorrect, EventCorrect, LogHolds, LogRule}
+use Rattle.message_log.specs.RuleAfter.{last_after, LogState, state_after, EventAfterCorrect, LogHoldsAfter, LogRuleAfter}
 use Rattle.message_log.specs.Laws.{Closed}
 use Rattle.message_log.proofs.Cells.{held, highest_by, window}
 use Rattle.message_log.proofs.Parts.{cells_sized}
-use Rattle.message_log.proofs.Claims.{Keeping, shows_by, recovery_right, call_right, standing_plays}
+use Rattle.message_log.proofs.Claims.{Keeping, shows_by, call_right, call_after_right, standing_plays}
 use Rattle.message_log.proofs.Events.{done_keeps, done_last, done_closed_after, cut_keeps, again_keeps, cut_recovery_keeps, recovery_done_keeps, restart_closed}
 use Rattle.message_log.proofs.Events.{restart_last}
 
@@ -54,11 +55,11 @@ module _ (cells : ℕ) (low : 2 ≤ cells) where
     restart_right = (
       throughout _ _ _ _ (Keeping cells) (λ r. Unit) (λ a l k. k.shows)
           (λ a l k r u. (
-            recovery_right cells low a l k r.at r.value,
+            call_right cells low a l k (a_recovery r.at r.value) recovery_fits,
             standing_plays cells low a l k (a_recovery r.at r.value) recovery_fits r.counts,
           ))
           (λ a l k r u. cut_recovery_keeps cells low a l k r) area log restart.again keep (all_any restart.again),
-      recovery_right cells low last log last_keeps restart.at restart.value,
+      call_right cells low last log last_keeps (a_recovery restart.at restart.value) recovery_fits,
     )
 
     restart_good : cells ≤ length restart.at → cells ≤ length restart.value
@@ -71,45 +72,68 @@ module _ (cells : ℕ) (low : 2 ≤ cells) where
 
   -- ---- one event
 
-  -- and the last number counts the messages
+  module _ (area : List ℕ) (log : Messages) (good : Good cells area log) where
+    abbrev keep : Keeping cells area log
+    keep = good.keep
+
+    closed : Closed (cells_in area) (word area)
+    closed = closed_in area log good
+
+    struck : (call : LogCall) (counts : ℕ → ℕ) (restart : LogRestart) → FitsCall call
+        → Keeping cells (area_cut area call counts) (messages_after area log (call_cut call counts restart))
+    unfolding is_missing
+    struck call counts restart f = cut_keeps cells low area log keep call counts f closed
+
+    event_right : (event : LogEvent) → FitsEvent cells event → EventCorrect cells area log event
+    unfolding EventCorrect
+    event_right (call_done call) (done_fits f) = call_right cells low area log keep call f
+    event_right (call_cut call counts restart) (cut_fits f p q) = (
+      call_right cells low area log keep call f,
+      restart_right _ _ (struck call counts restart f) restart,
+      standing_plays cells low area log keep call f counts,
+    )
+
+    event_keeps : (event : LogEvent) → FitsEvent cells event → Good cells (area_after area event) (messages_after area log event)
+    unfolding area_after is_missing
+    event_keeps (call_done call) (done_fits f) =
+        record {
+          keep = done_keeps cells low area log keep call f closed;
+          closed = closed_by area _ log keep (done_closed_after cells low area log keep call f closed);
+        }
+    event_keeps (call_cut call counts restart) (cut_fits f p q) = restart_good _ _ (struck call counts restart f) restart p q
+
+  -- EVERY LIST OF EVENTS is right, from any good area
+  log_holds : (area : List ℕ) (log : Messages) (events : List LogEvent) → Good cells area log → All (FitsEvent cells) events → LogHolds cells area log events
+  log_holds area log events good fit =
+      throughout _ _ _ _ (Good cells) (FitsEvent cells) (λ a l g. g.keep.shows) event_right event_keeps area log events good fit
+
+  -- ---- the same with the last number, which counts the messages
+
   abbrev InUse : LogState → Messages → Type 0
   InUse s log = Good cells s.area log × (s.last ≡ length log)
 
   module _ (s : LogState) (log : Messages) (in_use : InUse s log) where
-    abbrev keep : Keeping cells s.area log
-    keep = in_use.0.keep
-
-    closed : Closed (cells_in s.area) (word s.area)
-    closed = closed_in s.area log in_use.0
-
-    event_right : (event : LogEvent) → FitsEvent cells event → EventCorrect cells s log event
-    unfolding EventCorrect is_missing
-    event_right (call_done call) (done_fits f) = call_right cells low s.area log keep s.last in_use.1 call f
-    event_right (call_cut call counts restart) (cut_fits f p q) = (
-      call_right cells low s.area log keep s.last in_use.1 call f,
-      restart_right _ _ (cut_keeps cells low s.area log keep call counts f closed) restart,
-      standing_plays cells low s.area log keep call f counts,
+    after_right : (event : LogEvent) → FitsEvent cells event → EventAfterCorrect cells s log event
+    unfolding EventAfterCorrect
+    after_right (call_done call) (done_fits f) = call_after_right cells low s.area log in_use.0.keep s.last in_use.1 call f
+    after_right (call_cut call counts restart) (cut_fits f p q) = (
+      call_after_right cells low s.area log in_use.0.keep s.last in_use.1 call f,
+      restart_right _ _ (struck s.area log in_use.0 call counts restart f) restart,
+      standing_plays cells low s.area log in_use.0.keep call f counts,
     )
 
-    event_keeps : (event : LogEvent) → FitsEvent cells event → InUse (state_after s event) (messages_after s.area log event)
-    unfolding area_after last_after is_missing
-    event_keeps (call_done call) (done_fits f) = (
-      record {
-        keep = done_keeps cells low s.area log keep call f closed;
-        closed = closed_by s.area _ log keep (done_closed_after cells low s.area log keep call f closed);
-      },
-      done_last cells low s.area log keep call f closed s.last in_use.1,
-    )
-    event_keeps (call_cut call counts restart) (cut_fits f p q) =
-        let struck = cut_keeps cells low s.area log keep call counts f closed in (
-          restart_good _ _ struck restart p q,
-          restart_last cells low _ _ (last_keeps _ _ struck restart) 0 restart.at restart.value p q,
-        )
+    last_counts : (event : LogEvent) → FitsEvent cells event → last_after s.area s.last event ≡ length (messages_after s.area log event)
+    unfolding last_after is_missing
+    last_counts (call_done call) (done_fits f) = done_last cells low s.area log in_use.0.keep call f (closed s.area log in_use.0) s.last in_use.1
+    last_counts (call_cut call counts restart) (cut_fits f p q) =
+        restart_last cells low _ _ (last_keeps _ _ (struck s.area log in_use.0 call counts restart f) restart) 0 restart.at restart.value p q
 
-  -- EVERY LIST OF EVENTS is right, from any area in use
-  log_holds : (s : LogState) (log : Messages) (events : List LogEvent) → InUse s log → All (FitsEvent cells) events → LogHolds cells s log events
-  log_holds s log events in_use fit =
-      throughout _ _ _ _ InUse (FitsEvent cells) (λ a l u. record { shows = u.0.keep.shows; counted = u.1 }) event_right event_keeps s log events in_use fit
+    after_keeps : (event : LogEvent) → FitsEvent cells event → InUse (state_after s event) (messages_after s.area log event)
+    after_keeps event fits = (event_keeps s.area log in_use.0 event fits, last_counts event fits)
+
+  log_holds_after : (s : LogState) (log : Messages) (events : List LogEvent) → InUse s log → All (FitsEvent cells) events → LogHoldsAfter cells s log events
+  log_holds_after s log events in_use fit =
+      throughout _ _ _ _ InUse (FitsEvent cells) (λ a l u. record { shows = u.0.keep.shows; counted = u.1 }) after_right after_keeps s log events in_use fit
 
 -- ---- an area of zeros
 
@@ -154,4 +178,8 @@ module _ (cells : ℕ) (low : 2 ≤ cells) (high : cells ≤ 1000) where
 
 -- THE LOG RULE
 pub log_rule : LogRule
-log_rule cells low high events fit = log_holds cells low _ [] events (blank_good cells low high, refl) fit
+log_rule cells low high events fit = log_holds cells low _ [] events (blank_good cells low high) fit
+
+-- THE LOG RULE WITH append_after
+pub log_rule_after : LogRuleAfter
+log_rule_after cells low high events fit = log_holds_after cells low _ [] events (blank_good cells low high, refl) fit

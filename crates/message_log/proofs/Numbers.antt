@@ -7,11 +7,14 @@ use Rattle.prelude.specs.Answer.{Answer, refused}
 use Rattle.prelude.specs.Numbers.{Numbered, ZeroOrOneOf}
 use Rattle.prelude.proofs.defs.Among.{is_one}
 use Rattle.prelude.proofs.Numbers.{none_due, one_due, else_due, numbered}
+use Rattle.words.specs.Word.{word}
 use Rattle.layout.specs.Line.{version_fault}
 use Rattle.stores.specs.Store.{Store}
-use Rattle.message_log.specs.Area.{area_fault}
+use Rattle.message_log.specs.Area.{cells_in, area_fault}
 use Rattle.message_log.specs.LogOutcome.{short_fault, LogResult, log_end, handing, LogListResult, log_list_end, handing_list}
-use Rattle.message_log.specs.Append.{message_fault, append_after_fault, append_after_result, append_fault, append_result, append_list_result}
+use Rattle.message_log.specs.Append.{message_fault, next_message, append_stores, append_fault, append_result, append_list_result}
+use Rattle.message_log.specs.Message.{highest}
+use Rattle.message_log.specs.AppendAfter.{append_after_stores, append_after_fault, append_after_result}
 use Rattle.message_log.specs.Recover.{log_recover_fault, log_recover_result, log_recover_list_result}
 use Rattle.message_log.specs.Read.{read_fault, read_result, part_result}
 use Rattle.message_log.specs.Numbers.{append_refusals, log_recover_refusals, read_refusals, LogNumbers}
@@ -54,14 +57,14 @@ stored_list ks fault d number ss list = numbered ks (λ (r : LogListResult). r.a
 
 -- THE NUMBERS of the log's calls
 pub log_numbers : LogNumbers
-unfolding append_after_result append_fault append_result append_list_result log_recover_result log_recover_list_result read_result part_result
+unfolding append_after_result append_after_fault append_after_stores next_message append_stores append_fault append_result append_list_result log_recover_result log_recover_list_result read_result part_result
 log_numbers =
     record {
-      append = λ area message at value. handed append_refusals _ (append_due area _ message _ _) _ _ at value;
-      append_after = λ area last message at value. handed append_refusals _ (append_due area last message _ _) _ _ at value;
-      append_list = λ area message list. stored_list append_refusals _ (append_due area _ message _ _) _ _ list;
+      append = λ area message at value. handed append_refusals _ (append_due area (highest (cells_in area) (word area)) message _ _) _ _ at value;
+      append_list = λ area message list. stored_list append_refusals _ (append_due area (highest (cells_in area) (word area)) message _ _) _ _ list;
       recover = λ area at value. handed log_recover_refusals _ (recover_due area _ _) _ _ at value;
       recover_list = λ area list. stored_list log_recover_refusals _ (recover_due area _ _) _ _ list;
       read = read_due;
       read-part = λ area number. numbered read_refusals (λ (a : Answer). a) (λ k. refused k) (λ k. refl) _ (read_due area number) _ tt;
+      append_after = λ area last message at value. handed append_refusals _ (append_due area last message _ _) _ _ at value;
     }

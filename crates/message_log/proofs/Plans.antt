@@ -20,11 +20,13 @@ use Rattle.message_log.specs.Bit.{differing_place, store_count, bit_pair, packed
 use Rattle.message_log.specs.Message.{highest}
 use Rattle.message_log.specs.LogOutcome.{short_fault, log_end}
 use Rattle.message_log.specs.Append.{message_line, line_count, payload_stores, payloads_from, pairs_word, marked_body, marked_words, message_stores, message_fault}
-use Rattle.message_log.specs.Append.{append_after_stores, append_after_fault, append_after_result, append_stores, append_result}
-use Rattle.message_log.specs.inner.Needs.{CellCount, Filled, ListRoom, PayloadPlanned, AppendReady, AppendPlanned}
+use Rattle.message_log.specs.Append.{next_message, append_stores, append_fault, append_result}
+use Rattle.message_log.specs.AppendAfter.{append_after_stores, append_after_fault, append_after_result}
+use Rattle.message_log.specs.inner.Needs.{CellCount, Filled, ListRoom, PayloadPlanned, AppendPlanned, AppendAfterReady, AppendAfterPlanned}
 use Rattle.message_log.proofs.Flexible.{count_within, pair_low, packed_low}
 use Rattle.stores.proofs.Lists.{StoresFill, stores_begin, stores_on, stores_end, stores_room}
 use Rattle.message_log.proofs.Fillings.{filled, filled_append, hand_refused, hand_done}
+use Rattle.message_log.proofs.AppendAfter.{after_highest}
 use Rattle.message_log.proofs.Parts.{no_area, is_area, cells_by}
 use Rattle.message_log.proofs.Inside.{area_first}
 
@@ -205,12 +207,12 @@ message-length m c s message =
 
 -- an append has at most 56 stores
 pub append_few : (cells : ℕ) (m : ℕ → ℕ) (message : List ℕ) → length (append_stores cells m message) ≤ 56
-unfolding append_stores append_after_stores
+unfolding append_stores
 append_few cells m message =
     omega (
       arith,
-      message-length m (suc (highest cells m) % cells) (suc (highest cells m)) message,
-      from_few m (suc (highest cells m) % cells) message 0 6,
+      message-length m (next_message cells m % cells) (next_message cells m) message,
+      from_few m (next_message cells m % cells) message 0 6,
     )
 
 -- ---- the refusals
@@ -222,10 +224,10 @@ number_low last over v fits = leb-false (2 ^ 63) (suc last) (refuse_if_zero _ _ 
 
 module _ (area : List ℕ) (last : ℕ) (message : List ℕ) (ats vals k : ℕ) (e : k ≡ cells_in area) where
   refuses_with : (fault number cell pairs count n : ℕ) → (n ≡ 0 → ⊥) → fault ≡ n → n ≡ append_after_fault area last message ats vals
-      → AppendPlanned area last message ats vals fault number cell pairs count
+      → AppendAfterPlanned area last message ats vals fault number cell pairs count
   refuses_with fault number cell pairs count n ne p q = record { refusal = p ∙ q; ready = λ z. absurd (ne (sym p ∙ z)) }
 
-  pub plan_no_area : (fault number cell pairs count : ℕ) → k ≡ 0 → fault ≡ 30 → AppendPlanned area last message ats vals fault number cell pairs count
+  pub plan_no_area : (fault number cell pairs count : ℕ) → k ≡ 0 → fault ≡ 30 → AppendAfterPlanned area last message ats vals fault number cell pairs count
   plan_no_area fault number cell pairs count z p =
       refuses_with fault number cell pairs count 30 (λ x. omega arith) p (sym (area_first area last message ats vals (no_area area k e z)))
 
@@ -238,7 +240,7 @@ module _ (area : List ℕ) (last : ℕ) (message : List ℕ) (ats vals k : ℕ) 
 
     module _ (unfit : ℕ) (u : unfit ≡ message_fault (length message)) where
       pub plan_no_message : (fault number cell pairs count : ℕ) → (unfit ≡ 0 → ⊥) → fault ≡ unfit
-          → AppendPlanned area last message ats vals fault number cell pairs count
+          → AppendAfterPlanned area last message ats vals fault number cell pairs count
       unfolding append_after_fault
       plan_no_message fault number cell pairs count ne p =
           refuses_with fault number cell pairs count unfit ne p
@@ -246,7 +248,7 @@ module _ (area : List ℕ) (last : ℕ) (message : List ℕ) (ats vals k : ℕ) 
 
       module _ (fit : unfit ≡ 0) (over : ℕ) (v : over ≡ version_fault (suc last)) where
         pub plan_no_number : (fault number cell pairs count : ℕ) → (over ≡ 0 → ⊥) → fault ≡ over
-            → AppendPlanned area last message ats vals fault number cell pairs count
+            → AppendAfterPlanned area last message ats vals fault number cell pairs count
         unfolding append_after_fault
         plan_no_number fault number cell pairs count ne p =
             refuses_with fault number cell pairs count over ne p
@@ -273,7 +275,7 @@ module _ (area : List ℕ) (last : ℕ) (message : List ℕ) (ats vals k : ℕ) 
                 ∙ ap (λ (x : ℕ). length (message_stores (word area) x (suc last) message)) cell_is
 
             pub plan_done : (fault : ℕ) → fault ≡ short_fault (8 + stores) ats vals
-                → AppendPlanned area last message ats vals fault (last + 1) cell pairs (8 + stores)
+                → AppendAfterPlanned area last message ats vals fault (last + 1) cell pairs (8 + stores)
             unfolding append_after_fault short_fault
             plan_done fault r =
                 record {
@@ -307,13 +309,13 @@ module _ (area : List ℕ) (last : ℕ) (message : List ℕ) (ats vals k : ℕ) 
 -- ---- the call
 
 module _ (area : List ℕ) (last : ℕ) (message at value : List ℕ) (fault number cell pairs count : ℕ)
-    (g : AppendPlanned area last message (length at) (length value) fault number cell pairs count) where
-  pub append_refused : (fault ≡ 0 → ⊥) → log_end (refused fault) at value ≡ append_after_result area last message at value
+    (g : AppendAfterPlanned area last message (length at) (length value) fault number cell pairs count) where
+  pub after_refused : (fault ≡ 0 → ⊥) → log_end (refused fault) at value ≡ append_after_result area last message at value
   unfolding append_after_result
-  append_refused ne = hand_refused _ _ _ at value fault g.refusal ne
+  after_refused ne = hand_refused _ _ _ at value fault g.refusal ne
 
   module _ (z : fault ≡ 0) where
-    ready : AppendReady area last message (length at) (length value) number cell pairs count
+    ready : AppendAfterReady area last message (length at) (length value) number cell pairs count
     ready = g.ready z
 
     stores_are : message_stores (word area) cell number message ≡ append_after_stores (cells_in area) (word area) last message
@@ -323,21 +325,58 @@ module _ (area : List ℕ) (last : ℕ) (message at value : List ℕ) (fault num
     long : length (append_after_stores (cells_in area) (word area) last message) ≡ 8 + length (payloads_from (word area) cell message 0 6)
     long = sym (ap length stores_are) ∙ message-length (word area) cell number message
 
-    pub append_taken : (at' value' : List ℕ) → Filled at value at' value' 0 (message_stores (word area) cell number message)
+    pub after_taken : (at' value' : List ℕ) → Filled at value at' value' 0 (message_stores (word area) cell number message)
         → log_end (gives (number ∷ count ∷ [])) at' value' ≡ append_after_result area last message at value
     unfolding append_after_result
-    append_taken at' value' f =
+    after_taken at' value' f =
         hand_done _ _ (append_after_stores (cells_in area) (word area) last message) at value at' value' number count (sym g.refusal ∙ z) ready.next
         ready.size (subst (Filled at value at' value' 0) stores_are f)
         (omega (arith, ready.room.payload.room.at_room, long)) (omega (arith, ready.room.payload.room.value_room, long))
 
--- APPEND: 30 where the area is not K cells, and else append_after with the highest complete number
-module _ (area message at value : List ℕ) (k : ℕ) (e : k ≡ cells_in area) where
-  pub append_no_area : k ≡ 0 → log_end (refused 30) at value ≡ append_result area message at value
-  unfolding append_result append_after_result
-  append_no_area z =
-      hand_refused _ _ _ at value 30 (sym (area_first area (highest (cells_in area) (word area)) message _ _ (no_area area k e z))) (λ x. omega arith)
+-- ---- append: append_after of the highest complete number
 
-  pub append_by : (top : ℕ) → top ≡ highest k (word area) → append_after_result area top message at value ≡ append_result area message at value
-  unfolding append_result
-  append_by top f = ap (λ (n : ℕ). append_after_result area n message at value) (f ∙ ap (λ (j : ℕ). highest j (word area)) e)
+-- the plans are the same
+module _ (area message : List ℕ) (ats vals fault number cell pairs count : ℕ) where
+  planned_highest : AppendAfterPlanned area (highest (cells_in area) (word area)) message ats vals fault number cell pairs count
+      → AppendPlanned area message ats vals fault number cell pairs count
+  unfolding append_after_stores append_after_fault next_message append_stores append_fault
+  planned_highest g =
+      record {
+        refusal = g.refusal;
+        ready = λ z. let r = g.ready z in record { next = r.next; there = r.there; size = r.size; room = r.room };
+      }
+
+  highest_planned : AppendPlanned area message ats vals fault number cell pairs count
+      → AppendAfterPlanned area (highest (cells_in area) (word area)) message ats vals fault number cell pairs count
+  unfolding append_after_stores append_after_fault next_message append_stores append_fault
+  highest_planned g =
+      record {
+        refusal = g.refusal;
+        ready = λ z. let r = g.ready z in record { next = r.next; there = r.there; size = r.size; room = r.room };
+      }
+
+  module _ (k : ℕ) (e : k ≡ cells_in area) where
+    pub planned_no_area : k ≡ 0 → fault ≡ 30 → AppendPlanned area message ats vals fault number cell pairs count
+    planned_no_area z p = planned_highest (plan_no_area area (highest (cells_in area) (word area)) message ats vals k e fault number cell pairs count z p)
+
+    pub planned_by : (top : ℕ) → top ≡ highest k (word area) → AppendAfterPlanned area top message ats vals fault number cell pairs count
+        → AppendPlanned area message ats vals fault number cell pairs count
+    planned_by top f g =
+        planned_highest
+        (subst (λ (n : ℕ). AppendAfterPlanned area n message ats vals fault number cell pairs count) (f ∙ ap (λ (j : ℕ). highest j (word area)) e) g)
+
+module _ (area message at value : List ℕ) (fault number cell pairs count : ℕ)
+    (g : AppendPlanned area message (length at) (length value) fault number cell pairs count) where
+  after : AppendAfterPlanned area (highest (cells_in area) (word area)) message (length at) (length value) fault number cell pairs count
+  after = highest_planned area message (length at) (length value) fault number cell pairs count g
+
+  pub append_refused : (fault ≡ 0 → ⊥) → log_end (refused fault) at value ≡ append_result area message at value
+  append_refused ne =
+      after_refused area (highest (cells_in area) (word area)) message at value fault number cell pairs count after ne
+      ∙ after_highest.result area message at value
+
+  pub append_taken : fault ≡ 0 → (at' value' : List ℕ) → Filled at value at' value' 0 (message_stores (word area) cell number message)
+      → log_end (gives (number ∷ count ∷ [])) at' value' ≡ append_result area message at value
+  append_taken z at' value' f =
+      after_taken area (highest (cells_in area) (word area)) message at value fault number cell pairs count after z at' value' f
+      ∙ after_highest.result area message at value

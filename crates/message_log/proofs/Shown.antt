@@ -16,7 +16,7 @@ use Rattle.stores.specs.Store.{on_line}
 use Rattle.stores.specs.Cut.{after_cut}
 use Rattle.message_log.specs.Area.{marked_line}
 use Rattle.message_log.specs.Message.{holds_message, is_complete, highest}
-use Rattle.message_log.specs.Append.{message_stores, append_after_stores, next_message, append_stores}
+use Rattle.message_log.specs.Append.{message_stores, next_message, append_stores}
 use Rattle.message_log.specs.Recover.{is_above, invalidations, recovery_stores}
 use Rattle.message_log.specs.Laws.{Closed}
 use Rattle.message_log.proofs.Cells.{held, SameCell, same_holds, Highest, highest_is, highest_by, Window}
@@ -163,7 +163,7 @@ module _ (cells : ℕ) (many : 2 ≤ cells) (m : ℕ → ℕ) (m-fits : (i : ℕ
   -- A STORE IS MISSING: the same is shown
   pub torn_shown : Closed cells m → (n : ℕ) → counts n < length (on_line n (append_stores cells m message))
       → KeepsShown cells m (after_cut counts (append_stores cells m message) m)
-  unfolding append_stores append_after_stores next_message
+  unfolding append_stores next_message
   torn_shown closed n l =
       record {
         top = highest_by cells after (omega arith) (highest cells m)
@@ -188,7 +188,7 @@ module _ (cells : ℕ) (many : 2 ≤ cells) (m : ℕ → ℕ) (m-fits : (i : ℕ
   -- ALL STORES STAND: the message is shown too
   module _ (size_low : 1 ≤ length message) (size_high : length message ≤ 384) (stand : AllStand counts (append_stores cells m message)) where
     all_here : AllStand counts (message_stores m cell s' message)
-    unfolding append_stores append_after_stores next_message
+    unfolding append_stores next_message
     all_here = stand
 
     new : Message after cell s' message
@@ -207,7 +207,7 @@ module _ (cells : ℕ) (many : 2 ≤ cells) (m : ℕ → ℕ) (m-fits : (i : ℕ
             (λ ne. omega (arith, above_top, top_was.above s (sym (other_complete s ne) ∙ e)))
 
     pub done_shown : AddsShown cells m (after_cut counts (append_stores cells m message) m) message
-    unfolding append_stores append_after_stores next_message
+    unfolding append_stores next_message
     done_shown =
         record {
           top = top_after;
@@ -216,7 +216,7 @@ module _ (cells : ℕ) (many : 2 ≤ cells) (m : ℕ → ℕ) (m-fits : (i : ℕ
         }
 
     pub done_closed : Closed cells m → Closed cells (after_cut counts (append_stores cells m message) m)
-    unfolding append_stores append_after_stores next_message
+    unfolding append_stores next_message
     done_closed closed c l w =
         by_cases (ℕ_discrete c cell)
         (λ e. omega (arith, top_after, ap (λ (x : ℕ). version_of (marked_line after x 7)) e, version_is))

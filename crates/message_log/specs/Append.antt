@@ -1,4 +1,4 @@
--- Append and append_after: their stores, refusals and results. Document 02, A.10.
+-- Append: its stores, its refusals and its result. Document 02, A.10.
 use Rattle.std.specs.Prelude.{cond, List, [], ◌++◌, ℕ, zero, suc, ◌+◌, ◌*◌, ◌%◌, eqb, ltb, length}
 use Rattle.prelude.specs.Refusal.{refuse_if, or_else}
 use Rattle.words.specs.Word.{word}
@@ -43,44 +43,32 @@ marked_words m c s message = marked (marked_line m c 7) s (marked_body (length m
 unfoldable pub message_stores : (m : ℕ → ℕ) → (c s : ℕ) → (message : List ℕ) → List Store
 message_stores m c s message = line_stores (7 * c) (marked_words m c s message) ++ payloads_from m c message 0 6
 
--- "29 when a message is empty or over 384 bytes"
-unfoldable pub message_fault : (size : ℕ) → ℕ
-message_fault size = refuse_if (eqb size 0) 29 (refuse_if (ltb 384 size) 29 0)
-
--- ---- append_after: the last number is lent, and may be any number
-
--- "Message s .. stands in cell s mod K": s is one above the lent number
-unfoldable pub append_after_stores : (cells : ℕ) → (m : ℕ → ℕ) → (last : ℕ) → (message : List ℕ) → List Store
-append_after_stores cells m last message = message_stores m (suc last % cells) (suc last) message
-
--- "30 is tested first, and in an append 29, then 9 for a number of 2^63 or more, then 13 for a list shorter than the
--- stores"; ats and vals are the lengths of the lists
-unfoldable pub append_after_fault : (area : List ℕ) → (last : ℕ) → (message : List ℕ) → (ats vals : ℕ) → ℕ
-append_after_fault area last message ats vals =
-    or_else (area_fault area)
-    (or_else (message_fault (length message))
-    (or_else (version_fault (suc last))
-    (short_fault (length (append_after_stores (cells_in area) (word area) last message)) ats vals)))
-
--- "An append answers its number and its count of stores"
-unfoldable pub append_after_result : (area : List ℕ) → (last : ℕ) → (message at value : List ℕ) → LogResult
-append_after_result area last message at value =
-    handing (append_after_fault area last message (length at) (length value)) (suc last) (append_after_stores (cells_in area) (word area) last message) at value
-
--- ---- append: the last number is the highest complete one of the area
-
 -- "numbered one above the highest complete number, from 1"
 unfoldable pub next_message : (cells : ℕ) → (m : ℕ → ℕ) → ℕ
 next_message cells m = suc (highest cells m)
 
+-- "Message s .. stands in cell s mod K"
 unfoldable pub append_stores : (cells : ℕ) → (m : ℕ → ℕ) → (message : List ℕ) → List Store
-append_stores cells m message = append_after_stores cells m (highest cells m) message
+append_stores cells m message = message_stores m (next_message cells m % cells) (next_message cells m) message
 
+-- "29 when a message is empty or over 384 bytes"
+unfoldable pub message_fault : (size : ℕ) → ℕ
+message_fault size = refuse_if (eqb size 0) 29 (refuse_if (ltb 384 size) 29 0)
+
+-- "30 is tested first, and in an append 29, then 9 for a number of 2^63 or more, then 13 for a list shorter than the
+-- stores"; ats and vals are the lengths of the lists
 unfoldable pub append_fault : (area message : List ℕ) → (ats vals : ℕ) → ℕ
-append_fault area message ats vals = append_after_fault area (highest (cells_in area) (word area)) message ats vals
+append_fault area message ats vals =
+    or_else (area_fault area)
+    (or_else (message_fault (length message))
+    (or_else (version_fault (next_message (cells_in area) (word area)))
+    (short_fault (length (append_stores (cells_in area) (word area) message)) ats vals)))
 
+-- "An append answers its number and its count of stores"
 unfoldable pub append_result : (area message at value : List ℕ) → LogResult
-append_result area message at value = append_after_result area (highest (cells_in area) (word area)) message at value
+append_result area message at value =
+    handing (append_fault area message (length at) (length value)) (next_message (cells_in area) (word area))
+    (append_stores (cells_in area) (word area) message) at value
 
 -- the same with one lent list of records
 unfoldable pub append_list_result : (area message : List ℕ) → (list : List Store) → LogListResult

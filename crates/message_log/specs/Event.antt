@@ -1,9 +1,9 @@
 -- Calls on the log that a power cut may strike, and the plain machine beside it. Document 02, A.10: "The cut rule
 -- covers the log too, from an area of zeros, with recovery's list long enough and cuts among recovery's stores
 -- included."
-use Rattle.std.specs.Prelude.{Bool, false, cond, not, List, [], ◌∷◌, ◌++◌, ℕ, suc, ◌*◌, ◌≤◌, ltb, length, get_or}
+use Rattle.std.specs.Prelude.{Bool, false, cond, not, List, [], ◌∷◌, ◌++◌, ℕ, suc, ◌*◌, ◌≤◌, ltb, length}
 use Rattle.prelude.specs.Refusal.{refuse_if, or_else, unless_refused}
-use Rattle.prelude.specs.Answer.{Answer, gives, absent, refused, refuses}
+use Rattle.prelude.specs.Answer.{refuses}
 use Rattle.prelude.specs.Range.{any_of}
 use Rattle.words.specs.Word.{AreBytes, word}
 use Rattle.layout.specs.Line.{version_fault}
@@ -11,8 +11,8 @@ use Rattle.stores.specs.Store.{Store, played, standing, on_line}
 use Rattle.message_log.specs.Area.{cells_in}
 use Rattle.message_log.specs.Message.{in_window}
 use Rattle.message_log.specs.LogOutcome.{short_fault}
-use Rattle.message_log.specs.Append.{message_fault, append_stores, append_fault, append_result}
-use Rattle.message_log.specs.Recover.{recovery_stores, log_recover_fault, log_recover_result}
+use Rattle.message_log.specs.Append.{message_fault, append_stores, append_fault}
+use Rattle.message_log.specs.Recover.{recovery_stores, log_recover_fault}
 
 -- a call with what it is lent: at and value are the lists for its stores
 pub data LogCall : Type 0 where
@@ -75,35 +75,6 @@ unfoldable pub area_after : (area : List ℕ) → LogEvent → List ℕ
 area_after area (call_done call) = area_done area call
 area_after area (call_cut call counts restart) =
     area_done (area_after_all (area_cut area call counts) restart.again) (a_recovery restart.at restart.value)
-
--- ---- the last number
-
--- the number in an answer. A refused call answers none, and the one that was held stays
-unfoldable pub number_given : (held : ℕ) → Answer → ℕ
-number_given held (gives values) = get_or values 0 0
-number_given held absent = held
-number_given held (refused number) = held
-
--- what append_after is lent, held by the program: the number that the last append or recovery that was not refused
--- answered
-unfoldable pub last_after_call : (area : List ℕ) → (last : ℕ) → LogCall → ℕ
-last_after_call area last (an_append message at value) = number_given last (append_result area message at value).answer
-last_after_call area last (a_read number) = last
-last_after_call area last (a_recovery at value) = number_given last (log_recover_result area at value).answer
-
--- a cut takes it, and the recovery after the cut answers it anew
-unfoldable pub last_after : (area : List ℕ) → (last : ℕ) → LogEvent → ℕ
-last_after area last (call_done call) = last_after_call area last call
-last_after area last (call_cut call counts restart) =
-    last_after_call (area_after_all (area_cut area call counts) restart.again) 0 (a_recovery restart.at restart.value)
-
--- between events: the area, and the last number
-pub record LogState : Type 0 where
-  pub area : List ℕ
-  pub last : ℕ
-
-abbrev pub state_after : LogState → LogEvent → LogState
-state_after s event = record { area = area_after s.area event; last = last_after s.area s.last event }
 
 -- ---- the plain machine
 

@@ -5,7 +5,7 @@ use Rattle.layout.specs.Line.{whole, version_of}
 use Rattle.stores.specs.Store.{played, standing}
 use Rattle.message_log.specs.Area.{cells_in, area_fault, marked_line}
 use Rattle.message_log.specs.Message.{highest, shown}
-use Rattle.message_log.specs.Append.{append_after_result, next_message, append_stores, append_fault, append_result}
+use Rattle.message_log.specs.Append.{next_message, append_stores, append_fault}
 use Rattle.message_log.specs.Recover.{recovery_stores}
 use Rattle.message_log.specs.Read.{read_part}
 use Rattle.message_log.specs.Event.{is_torn}
@@ -52,9 +52,3 @@ AppendAllOrNone =
     → (ats vals : ℕ) → append_fault area message ats vals ≡ 0 → (counts : ℕ → ℕ)
     → AppendLeaves area message (played (standing counts (append_stores (cells_in area) (word area) message)) area)
     (is_torn counts (append_stores (cells_in area) (word area) message) (7 * cells_in area))
-
--- append_after, lent the highest complete number of the area, is append
-abbrev pub AfterHighest : Type 0
-AfterHighest =
-    (area message at value : List ℕ)
-    → append_after_result area (highest (cells_in area) (word area)) message at value ≡ append_result area message at value

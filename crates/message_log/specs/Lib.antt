@@ -3,10 +3,12 @@ pub mod Bit
 pub mod Message
 pub mod LogOutcome
 pub mod Append
+pub mod AppendAfter
 pub mod Recover
 pub mod Read
 pub mod Event
 pub mod Rule
+pub mod RuleAfter
 pub mod Laws
 pub mod Numbers
 pub mod inner

@@ -4,7 +4,8 @@
 use Rattle.std.specs.Prelude.{List, [], ◌∷◌, ℕ}
 use Rattle.prelude.specs.Numbers.{Numbered, ZeroOrOneOf}
 use Rattle.stores.specs.Store.{Store}
-use Rattle.message_log.specs.Append.{append_after_result, append_result, append_list_result}
+use Rattle.message_log.specs.Append.{append_result, append_list_result}
+use Rattle.message_log.specs.AppendAfter.{append_after_result}
 use Rattle.message_log.specs.Recover.{log_recover_result, log_recover_list_result}
 use Rattle.message_log.specs.Read.{read_result, part_result}
 
@@ -17,13 +18,13 @@ log_recover_refusals = 30 ∷ 13 ∷ []
 abbrev pub read_refusals : List ℕ
 read_refusals = 30 ∷ 31 ∷ []
 
--- append and recovery, with their stores in two lists of numbers or in one list of stores; append_after; read, which leaves its
--- refusal in a lent number, and the same by numbers
+-- append and recovery, with their stores in two lists of numbers or in one list of stores; read, which leaves its
+-- refusal in a lent number, and the same by numbers; and append_after, whatever number it is lent
 pub record LogNumbers : Type 0 where
   pub append : (area message at value : List ℕ) → Numbered append_refusals (append_result area message at value).answer
-  pub append_after : (area : List ℕ) (last : ℕ) (message at value : List ℕ) → Numbered append_refusals (append_after_result area last message at value).answer
   pub append_list : (area message : List ℕ) (list : List Store) → Numbered append_refusals (append_list_result area message list).answer
   pub recover : (area at value : List ℕ) → Numbered log_recover_refusals (log_recover_result area at value).answer
   pub recover_list : (area : List ℕ) (list : List Store) → Numbered log_recover_refusals (log_recover_list_result area list).answer
   pub read : (area : List ℕ) (number : ℕ) → ZeroOrOneOf read_refusals (read_result area number).refusal
   pub read-part : (area : List ℕ) (number : ℕ) → Numbered read_refusals (part_result area number)
+  pub append_after : (area : List ℕ) (last : ℕ) (message at value : List ℕ) → Numbered append_refusals (append_after_result area last message at value).answer

@@ -11,11 +11,10 @@ use Rattle.stores.specs.Play.{play_end, word_numbers, values, play_list_result}
 use Rattle.message_log.specs.Area.{cells_in}
 use Rattle.message_log.specs.Message.{highest, in_window, shown}
 use Rattle.message_log.specs.LogOutcome.{LogResult, log_end, LogListResult}
-use Rattle.message_log.specs.Append.{append_after_result, append_result, append_list_result}
+use Rattle.message_log.specs.Append.{append_result, append_list_result}
 use Rattle.message_log.specs.Recover.{log_recover_result, log_recover_list_result}
 use Rattle.message_log.specs.Read.{read_part, read_end, read_result, part_result}
-use Rattle.message_log.specs.Event.{LogCall, an_append, a_read, a_recovery, LogRestart, LogEvent, call_done, call_cut, log_stores, area_done, area_cut, area_again}
-use Rattle.message_log.specs.Event.{area_after_all, LogState, state_after, Messages, expected_log_refusal, messages_after, FitsEvent}
+use Rattle.message_log.specs.Event.{LogCall, an_append, a_read, a_recovery, LogRestart, LogEvent, call_done, call_cut, log_stores, area_done, area_cut, area_again, area_after_all, area_after, Messages, expected_log_refusal, messages_after, FitsEvent}
 
 -- the messages shown of numbers 1 to n, by rising number
 unfoldable pub shown_up_to : (cells : ℕ) → (area : List ℕ) → (n : ℕ) → Messages
@@ -78,25 +77,20 @@ as_numbers r = log_end r.answer (word_numbers r.list) (values r.list)
 abbrev pub ListAgrees : (at value : List ℕ) → (List Store → LogListResult) → LogResult → Type 0
 ListAgrees at value call r = (list : List Store) → word_numbers list ≡ at → values list ≡ value → as_numbers (call list) ≡ r
 
--- a recovery gives how many messages there are, with two lent lists and with one
-abbrev pub LogRecoveryCorrect : (area : List ℕ) → Messages → (at value : List ℕ) → Type 0
-LogRecoveryCorrect area log at value =
-    HandsOut area (a_recovery at value) (expected_log_refusal area log (a_recovery at value)) (length log) (log_recover_result area at value)
-    × ListAgrees at value (log_recover_list_result area) (log_recover_result area at value)
-
--- each call answers as the plain machine does: an append gives the next number, with two lent lists and with one, and
--- with two by append_after too, which is lent the last number; a read gives the message's bytes, or an empty part; and
--- each is refused exactly where the rules refuse it
-unfoldable pub LogCallCorrect : (area : List ℕ) → (last : ℕ) → Messages → LogCall → Type 0
-LogCallCorrect area last log (an_append message at value) =
+-- each call answers as the plain machine does: an append gives the next number and a recovery how many messages there
+-- are, both with two lent lists and with one; a read gives the message's bytes, or an empty part; and each is refused
+-- exactly where the rules refuse it
+unfoldable pub LogCallCorrect : (area : List ℕ) → Messages → LogCall → Type 0
+LogCallCorrect area log (an_append message at value) =
     HandsOut area (an_append message at value) (expected_log_refusal area log (an_append message at value)) (suc (length log))
     (append_result area message at value)
     × ListAgrees at value (append_list_result area message) (append_result area message at value)
-    × (append_after_result area last message at value ≡ append_result area message at value)
-LogCallCorrect area last log (a_read number) =
+LogCallCorrect area log (a_read number) =
     read_result area number ≡
     read_end (unless_refused (expected_log_refusal area log (a_read number)) (get_or log (number - 1) []) []) (expected_log_refusal area log (a_read number))
-LogCallCorrect area last log (a_recovery at value) = LogRecoveryCorrect area log at value
+LogCallCorrect area log (a_recovery at value) =
+    HandsOut area (a_recovery at value) (expected_log_refusal area log (a_recovery at value)) (length log) (log_recover_result area at value)
+    × ListAgrees at value (log_recover_list_result area) (log_recover_result area at value)
 
 -- ---- one event
 
@@ -112,31 +106,25 @@ StandingPlays area call counts =
 abbrev pub RestartCorrect : (cells : ℕ) → (area : List ℕ) → Messages → LogRestart → Type 0
 RestartCorrect cells area log restart =
     Throughout area_again (λ a l r. l) (Shows cells)
-    (λ a l r. LogRecoveryCorrect a l r.at r.value × StandingPlays a (a_recovery r.at r.value) r.counts) area log
+    (λ a l r. LogCallCorrect a l (a_recovery r.at r.value) × StandingPlays a (a_recovery r.at r.value) r.counts) area log
     restart.again
-    × LogRecoveryCorrect (area_after_all area restart.again) log restart.at restart.value
+    × LogCallCorrect (area_after_all area restart.again) log (a_recovery restart.at restart.value)
 
 -- the call is right, and so is the restart after it; the stores of the struck call that stand are played
-unfoldable pub EventCorrect : (cells : ℕ) → LogState → Messages → LogEvent → Type 0
-EventCorrect cells s log (call_done call) = LogCallCorrect s.area s.last log call
-EventCorrect cells s log (call_cut call counts restart) =
-    LogCallCorrect s.area s.last log call
-    × RestartCorrect cells (area_cut s.area call counts) (messages_after s.area log (call_cut call counts restart)) restart
-    × StandingPlays s.area call counts
+unfoldable pub EventCorrect : (cells : ℕ) → (area : List ℕ) → Messages → LogEvent → Type 0
+EventCorrect cells area log (call_done call) = LogCallCorrect area log call
+EventCorrect cells area log (call_cut call counts restart) =
+    LogCallCorrect area log call × RestartCorrect cells (area_cut area call counts) (messages_after area log (call_cut call counts restart)) restart
+    × StandingPlays area call counts
 
 -- ---- every list of events
 
--- the list is shown, and the last number counts its messages
-pub record ShowsAndCounts (cells : ℕ) (s : LogState) (log : Messages) : Type 0 where
-  pub shows : Shows cells s.area log
-  pub counted : s.last ≡ length log
+-- before each event and after the last the list is shown, and each event is right
+abbrev pub LogHolds : (cells : ℕ) → (area : List ℕ) → Messages → List LogEvent → Type 0
+LogHolds cells = Throughout area_after messages_after (Shows cells) (EventCorrect cells)
 
--- so it is before each event and after the last, and each event is right
-abbrev pub LogHolds : (cells : ℕ) → LogState → Messages → List LogEvent → Type 0
-LogHolds cells = Throughout state_after (λ s. messages_after s.area) (ShowsAndCounts cells) (EventCorrect cells)
-
--- "from an area of zeros", of which no number was answered
+-- "from an area of zeros"
 abbrev pub LogRule : Type 0
 LogRule =
     (cells : ℕ) → 2 ≤ cells → cells ≤ 1000 → (events : List LogEvent) → All (FitsEvent cells) events
-    → LogHolds cells (record { area = replicate (448 * cells) 0; last = 0 }) [] events
+    → LogHolds cells (replicate (448 * cells) 0) [] events

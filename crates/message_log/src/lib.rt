@@ -1,4 +1,5 @@
 // The raw message log: types, definitions and laws. Document 02, A.10.
+#![tactic(auto)]
 
 #![tactic(auto)]
 

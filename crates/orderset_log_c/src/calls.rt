@@ -1,6 +1,7 @@
 // Append, append_after, recover and read.
 ghost use Rattle.std.specs.Prelude.{◌≡◌};
-ghost use Rattle.message_log.specs.Append.{append_after_result, append_result};
+ghost use Rattle.message_log.specs.Append.{append_result};
+ghost use Rattle.message_log.specs.AppendAfter.{append_after_result};
 ghost use Rattle.message_log.specs.Recover.{log_recover_result};
 ghost use Rattle.message_log.specs.Read.{part_result};
 ghost use Rattle.log_exports.specs.Call.{hand_left, hand_call, part_left, part_call};
