@@ -1,0 +1,10 @@
+-- The reads of `console::run_session` are counted, and what is lent keeps its sizes.
+use Rattle.std.proofs.Common.{◌≡◌, length}
+use Rattle.console.proofs.run_session.Given as goal
+
+abbrev pub invariant-loop-reads : goal.invariant-loop-reads
+invariant-loop-reads l =
+    (length l.input ≡ 4096) × (length l.out ≡ 4096) × (length l.image ≡ 65536) × (length l.heads ≡ 1) × (length l.next ≡ 512)
+
+abbrev pub decreases-loop-reads : goal.decreases-loop-reads
+decreases-loop-reads l = l.reads
