@@ -13,7 +13,8 @@ use Rattle.prelude.specs.Answer.{Answer, gives, absent, refused}
 use Rattle.prelude.proofs.defs.Among.{are_among}
 use Rattle.prelude.proofs.Among.{one_of, among}
 use Rattle.book.proofs.OrderBytes.{order_length}
-use Rattle.interface.specs.Set.{World, State, Insert, Replace, write_result, remove_result, get_result, locate_result, limit, Layout, CallResult, index_of, Index}
+use Rattle.interface.specs.Set.{World, State, Insert, Replace, write_result, remove_result, get_result, locate_result, limit, Layout, CallResult, index_of}
+use Rattle.interface.specs.Set.{Index}
 use Rattle.prelude.specs.Numbers.{Numbered}
 use Rattle.interface.specs.Numbers.{AnswersAsAsked, locate_refusals, storing_refusals, roomy_get_refusals}
 use Rattle.interface.proofs.Numbers.{locate_asked, get_asked, remove_numbered, roomy_get_numbered, locate_numbered}

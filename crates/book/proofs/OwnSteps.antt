@@ -6,7 +6,8 @@ use Prim.Native.Nat.{ℕ}
 use lib.Dec.{eqb}
 use Rattle.prelude.specs.Answer.{Answer, gives, absent, refused}
 use Rattle.prelude.specs.Refusal.{unless_refused}
-use Rattle.interface.specs.Set.{Mode, Insert, Replace, World, PlainMap, Call, write, remove, CallResult, call_result, call_result_by, write_result, write_result_by}
+use Rattle.interface.specs.Set.{Mode, Insert, Replace, World, PlainMap, Call, write, remove, CallResult, call_result, call_result_by, write_result}
+use Rattle.interface.specs.Set.{write_result_by}
 use Rattle.interface.specs.Set.{remove_result, remove_result_by, locate_result}
 use Rattle.interface.specs.Laws.{SetLaws}
 use Rattle.book.specs.Orders.{order_bytes, open_of, sent, acknowledged, filled_by}

@@ -14,7 +14,8 @@ use Rattle.prelude.proofs.Choice.{pick_true}
 use Rattle.prelude.proofs.Refusals.{or_else_zero, taken_leaves, refused_keeps, by_refusal}
 use Rattle.interface.specs.Set.{World, Insert, Replace, Call, write, remove, locate, call_result, PlainMap, Update, updates, plain_next, plain_step, rule_fault}
 use Rattle.interface.specs.Set.{Typed, write_typed, remove_typed, locate_typed, expected_refusal, slots_in}
-use Rattle.interface.specs.Event.{Cut, Event, done, struck, Effects, effects_of, step_by, image_cut, step, is_whole, plain_event, map_after_event, FitsBy, done_fits}
+use Rattle.interface.specs.Event.{Cut, Event, done, struck, Effects, effects_of, step_by, image_cut, step, is_whole, plain_event, map_after_event, FitsBy}
+use Rattle.interface.specs.Event.{done_fits}
 use Rattle.interface.specs.Event.{struck_fits, Fits}
 use Rattle.interface.specs.Plays.{PlaysSingle}
 use Rattle.interface.specs.Recovers.{RecoversAlways}

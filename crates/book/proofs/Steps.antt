@@ -12,7 +12,8 @@ use Rattle.prelude.specs.Answer.{gives, absent}
 use Rattle.prelude.specs.Refusal.{refuse_if}
 use Rattle.prelude.proofs.Choice.{pick_true, pick_false}
 use Rattle.prelude.proofs.Refusals.{taken_leaves, refused_keeps}
-use Rattle.interface.specs.Set.{World, Mode, Insert, Replace, Call, write, remove, call_result, write_result, remove_result, PlainMap, write_typed, remove_typed}
+use Rattle.interface.specs.Set.{World, Mode, Insert, Replace, Call, write, remove, call_result, write_result, remove_result, PlainMap, write_typed}
+use Rattle.interface.specs.Set.{remove_typed}
 use Rattle.interface.specs.Set.{is_held, plain_answer, holder, table_of, slots_in}
 use Rattle.interface.specs.Laws.{SetLaws}
 use Rattle.interface.proofs.LocatedSlot.{located}

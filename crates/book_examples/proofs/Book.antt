@@ -25,7 +25,8 @@ use Rattle.stores.specs.Written.{marked, placed_word, body_a, body_b, run, line_
 use Rattle.stores.specs.Play.{word_numbers, values}
 use Rattle.stores.specs.Invalidation.{invalidating_store, invalidating_stores}
 use Rattle.sorting.specs.Sorted.{insert, sorted}
-use Rattle.table.specs.Table.{is_record, key_in, rank_for_key, next_version, decider, value_in, value_at, map_of, deciding_put, live, spare, live_count, is_broken}
+use Rattle.table.specs.Table.{is_record, key_in, rank_for_key, next_version, decider, value_in, value_at, map_of, deciding_put, live, spare, live_count}
+use Rattle.table.specs.Table.{is_broken}
 use Rattle.table.specs.Table.{broken_count, broken_limit, many_broken, all_live, is_held}
 use Rattle.table.specs.Order.{rank_of, ordered, chain_of, reuse_of}
 use Rattle.prelude.specs.Keys.{Holds, holds, Keys}
@@ -38,9 +39,11 @@ use Rattle.index.specs.Change.{inserts_of, take_first, link_new, append, key_fau
 use Rattle.index.specs.Walk.{walk, search, chain_fault}
 use Rattle.index.specs.Allocation.{with_taken, at_end, allocation_walk, allocate_from, ends_fault, link_fault, few_fault, reuse_fault, room_fault}
 use Rattle.allocation.specs.Allocation.{allocation_by_rule, allocation_by}
-use Rattle.recovery.specs.Recover.{slots_fault, recover_fault, chains_of, place_of, recovered_index, recovered, recover_result, settled_fault, slots_named, recover_slot}
+use Rattle.recovery.specs.Recover.{slots_fault, recover_fault, chains_of, place_of, recovered_index, recovered, recover_result, settled_fault, slots_named}
+use Rattle.recovery.specs.Recover.{recover_slot}
 use Rattle.recovery.specs.Invalidation.{void_slots, invalidations_of, stores_in}
-use Rattle.calls.specs.Change.{changed, write_lent_fault, write_later_fault, write_fault, write_done, write_unless, write_result, remove_later_fault, remove_fault}
+use Rattle.calls.specs.Change.{changed, write_lent_fault, write_later_fault, write_fault, write_done, write_unless, write_result, remove_later_fault}
+use Rattle.calls.specs.Change.{remove_fault}
 use Rattle.calls.specs.Change.{remove_done, remove_unless, remove_result, store_fault, remove_fault_by, remove_result_by, write_fault_by, write_result_by}
 use Rattle.calls.specs.Result.{unchanged}
 use Rattle.calls.specs.Get.{length_fault, get_later_fault, get_fault, get_done, get_result}
@@ -53,7 +56,8 @@ use Rattle.interface.specs.Event.{RestartFits, FitsBy, done_fits, struck_fits, s
 use Rattle.book.specs.Orders.{order_bytes, order_of, is_state, is_order, sent, acknowledged, filled_by}
 use Rattle.book.specs.Steps.{new, fill, idle, change_answers, as_change, sought_in, sought_by, seek, new_at, new_result_by, already_at, acknowledge_at}
 use Rattle.book.specs.Steps.{acknowledge_result_by, quantity_fault, fill_by, fill_at, fill_result_by, withdraw_at, withdraw_result_by, booked_by}
-use Rattle.book.specs.Plain.{TypedStep, new_typed, acknowledge_typed, fill_typed, withdraw_typed, order_in, order_fault, book_fault, call_by, step_call, call_fault}
+use Rattle.book.specs.Plain.{TypedStep, new_typed, acknowledge_typed, fill_typed, withdraw_typed, order_in, order_fault, book_fault, call_by, step_call}
+use Rattle.book.specs.Plain.{call_fault}
 use Rattle.book.specs.Plain.{step_fault, updates_by, step_updates, book_effects}
 use Rattle.book.specs.Totals.{of_held, ordered_in, filled_in, withdrawn_in, is_accepted, is_counted, total_of, map_at_end, open_total, Conserves}
 use Rattle.book.proofs.Conservation.{none_held, others_stay, conservation}
@@ -72,22 +76,38 @@ history_computed : (book_answers 1 empty_book history ≡ history_answers) × (t
     × (recover_fault 1 (formatted 1 512) (length one_head) (length three_slots) ≡ 0) × (slots_in (formatted 1 512) ≡ 3)
     × ((key : ℕ) → empty_map key ≡ none) × (history_map 7 ≡ some (order_bytes filled30))
     × (history_map 8 ≡ none)
-unfolding word set_bytes set_word refuses is_accepted filter slot_numbers any_of tabulate greatest topmost lowest at_lowest count refuse_if or_else unless_refused
-    content_of_record content_by content_of content highest_whole highest_whole_in mark_fault kind_fault kind_limit bits_fault word_fault tail_fault fault_of record_fault
-    header_word header_fault image_fault index_fault lent_fault whole_version version_fault key_from key_of value_place slot_word value_word value_byte value_front value_of
-    slots_of paired highest_whole_of verdict_of line_verdict is_valid insert sorted invalidating_store invalidating_stores word_numbers values zipped played less
-    standing all_stand marked placed_word body_a body_b run line_stores record_stores basket_size has_version sharers complete version_if_complete highest_complete
-    is_void settled rank_of ordered chain_of reuse_of clashes sharers_fault is_record is_broken key_in rank_for_key next_version decider value_in value_at map_of
-    deciding_put live spare live_count broken_count broken_limit many_broken all_live is_held valid_version highest_valid is_remove older may_take takeable_count first_of
-    last_of after next_in chained take_first link_new append insert_at replace_at remove_at key_fault is_found set_next set_start set_last link with_taken at_end
-    allocation_walk allocate_from ends_fault link_fault few_fault reuse_fault room_fault walk search chain_fault allocation_by_rule void_slots invalidations_of stores_in
-    no_state settled_fault slots_fault slots_named recover_fault recover_slot chains_of place_of recovered_index recovered recover_result unchanged store_fault changed
-    write_lent_fault inserts_of write_later_fault write_fault_by allocation_by write_done write_unless write_result_by remove_later_fault remove_fault_by remove_done
-    remove_unless remove_result_by formatted length_fault get_later_fault get_fault get_done get_result locate_fault locate_done locate_answer updates updated plain_next
-    plain_step size_of room_rule rule_fault world_after after_round after_rounds invalidated_world restarted image_cut step_by is_whole plain_event order_bytes order_of
-    is_state is_order sent acknowledged filled_by order_in order_fault book_fault call_by step_call call_fault step_fault updates_by step_updates book_effects idle
-    change_answers as_change sought_in sought_by seek new_at new_result_by already_at acknowledge_at acknowledge_result_by quantity_fault fill_by fill_at fill_result_by
-    withdraw_at withdraw_result_by booked_by of_held ordered_in filled_in withdrawn_in is_counted total_of map_at_end open_total book_answers totals three_slots empty_book
+unfolding word set_bytes set_word refuses is_accepted filter slot_numbers any_of tabulate greatest topmost lowest at_lowest count refuse_if or_else
+    unless_refused
+    content_of_record content_by content_of content highest_whole highest_whole_in mark_fault kind_fault kind_limit bits_fault word_fault tail_fault fault_of
+    record_fault
+    header_word header_fault image_fault index_fault lent_fault whole_version version_fault key_from key_of value_place slot_word value_word value_byte
+    value_front value_of
+    slots_of paired highest_whole_of verdict_of line_verdict is_valid insert sorted invalidating_store invalidating_stores word_numbers values zipped played
+    less
+    standing all_stand marked placed_word body_a body_b run line_stores record_stores basket_size has_version sharers complete version_if_complete
+    highest_complete
+    is_void settled rank_of ordered chain_of reuse_of clashes sharers_fault is_record is_broken key_in rank_for_key next_version decider value_in value_at
+    map_of
+    deciding_put live spare live_count broken_count broken_limit many_broken all_live is_held valid_version highest_valid is_remove older may_take
+    takeable_count first_of
+    last_of after next_in chained take_first link_new append insert_at replace_at remove_at key_fault is_found set_next set_start set_last link with_taken
+    at_end
+    allocation_walk allocate_from ends_fault link_fault few_fault reuse_fault room_fault walk search chain_fault allocation_by_rule void_slots invalidations_of
+    stores_in
+    no_state settled_fault slots_fault slots_named recover_fault recover_slot chains_of place_of recovered_index recovered recover_result unchanged store_fault
+    changed
+    write_lent_fault inserts_of write_later_fault write_fault_by allocation_by write_done write_unless write_result_by remove_later_fault remove_fault_by
+    remove_done
+    remove_unless remove_result_by formatted length_fault get_later_fault get_fault get_done get_result locate_fault locate_done locate_answer updates updated
+    plain_next
+    plain_step size_of room_rule rule_fault world_after after_round after_rounds invalidated_world restarted image_cut step_by is_whole plain_event order_bytes
+    order_of
+    is_state is_order sent acknowledged filled_by order_in order_fault book_fault call_by step_call call_fault step_fault updates_by step_updates book_effects
+    idle
+    change_answers as_change sought_in sought_by seek new_at new_result_by already_at acknowledge_at acknowledge_result_by quantity_fault fill_by fill_at
+    fill_result_by
+    withdraw_at withdraw_result_by booked_by of_held ordered_in filled_in withdrawn_in is_counted total_of map_at_end open_total book_answers totals three_slots
+    empty_book
     history history_answers history_totals history_keys one_head recovering cut_at filled30 takeable_if
 history_computed = (refl, refl, refl, refl, λ key. refl, refl, refl)
 

@@ -60,7 +60,8 @@ module _ (l : ℕ) (items : List BasketItem) (values : List ℕ) where
   so_many count = changes_length 0 count
 
 -- an item's key, by its words
-pub key-at : (l : ℕ) (items : List BasketItem) (i high : ℕ) → high ≡ high_in l (item_at items i).high → key_with (item_at items i).low high ≡ item_key_at l items i
+pub key-at : (l : ℕ) (items : List BasketItem) (i high : ℕ) → high ≡ high_in l (item_at items i).high
+    → key_with (item_at items i).low high ≡ item_key_at l items i
 unfolding item_key
 key-at l items i high e = ap (key_with (item_at items i).low) e
 
@@ -243,7 +244,8 @@ module _ (l : ℕ) (items : List BasketItem) (count at words k : ℕ) (e : k ≡
 
     pub given_lists : b ≡ false → (r : ℕ) → r ≡ lists_fault count at words → (values : List ℕ) → r ≡ given_fault (changes_of l count items values) at words
     given_lists q r f values =
-        f ∙ sym (refuse_if-false (any_twice (changes_of l count items values)) _ _ (sym (t values) ∙ q)) ∙ sym (or_else_later (key_count_fault count) _ (sym e ∙ z))
+        f ∙ sym (refuse_if-false (any_twice (changes_of l count items values)) _ _ (sym (t values) ∙ q))
+        ∙ sym (or_else_later (key_count_fault count) _ (sym e ∙ z))
         ∙ given values
 
 -- ---- 11 by the chains, and the old records

@@ -142,5 +142,6 @@ pub items-found : (found : ℕ → Found) (l b : ℕ) (items : List BasketItem) 
 unfolding items_from items_for changes_from change_at takens_from
 items-found found l b items values olds slots prevs i zero e = refl
 items-found found l b items values olds slots prevs i (suc n) e =
-    ap₂ (λ (o : ℕ) (ks : List Item). record { action = (item_at items i).action; key_head = head_of (item_key_at l items i) b; old = o; slot = get_or slots i 0 } ∷ ks)
+    ap₂ (λ (o : ℕ) (ks : List Item). record
+    { action = (item_at items i).action; key_head = head_of (item_key_at l items i) b; old = o; slot = get_or slots i 0 } ∷ ks)
     (e i (omega arith) (omega arith)) (items-found found l b items values olds slots prevs (suc i) n (λ j p q. e j (omega arith) (omega arith)))

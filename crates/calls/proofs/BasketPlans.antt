@@ -27,7 +27,8 @@ use Rattle.allocation.specs.declared.Choice.{Choice}
 use Rattle.calls.specs.Change.{store_fault}
 use Rattle.calls.specs.Basket.{old_in}
 use Rattle.calls.specs.BasketItems.{KeyChange, changes_of}
-use Rattle.calls.specs.BasketRefusals.{key_count_fault, lists_fault, given_fault, first_fault, value_fault, action_fault, basket_lent_fault, keys_fault, sum_over}
+use Rattle.calls.specs.BasketRefusals.{key_count_fault, lists_fault, given_fault, first_fault, value_fault, action_fault, basket_lent_fault, keys_fault}
+use Rattle.calls.specs.BasketRefusals.{sum_over}
 use Rattle.calls.specs.BasketRefusals.{inserts_by, removes_by, basket_fault_by}
 use Rattle.calls.specs.inner.Basket.{item_key_at, OldsOf, ActionsFault, TotalsOf, StoreChoice, KeysPlanned, BasketReady, Planned}
 use Rattle.calls.specs.declared.BasketItem.{BasketItem}
@@ -132,7 +133,8 @@ module _ (l : ℕ) (items : List BasketItem) (count at words g : ℕ) (eg : (val
     (zg : g ≡ 0) where
   counted : (0 < count) × (count ≤ 8)
   unfolding given_fault
-  counted = let a = or_else_zero _ _ (sym (eg []) ∙ zg) in count_few count (key_count_fault count) refl (ap key_count_fault (sym (so_many l items [] count)) ∙ a.0)
+  counted =
+      let a = or_else_zero _ _ (sym (eg []) ∙ zg) in count_few count (key_count_fault count) refl (ap key_count_fault (sym (so_many l items [] count)) ∙ a.0)
 
   pub given_some : 0 < count
   given_some = counted.0

@@ -131,7 +131,8 @@ module _ (l : ℕ) (image : List ℕ) (version count : ℕ) (items : List Basket
             made : record_stores l (word image) (get_or slots j 0) (key_with (item_at items j).low high) kind number value version ≡ of_item j
             made =
                 ap₂ (λ (x y : ℕ). record_stores l (word image) (get_or slots j 0) x y number value version) (key-at l items j high eh) ek
-                ∙ ap₂ (λ (x : ℕ) (v : List ℕ). record_stores l (word image) (get_or slots j 0) (item_key_at l items j) (kind_by (item_at items j).action) x v version)
+                ∙ ap₂ (λ (x : ℕ) (v : List ℕ). record_stores l (word image) (get_or slots j 0) (item_key_at l items j) (kind_by (item_at items j).action) x v
+                version)
                 en ev
 
         pub recordable : (kind number : ℕ) (value : List ℕ) → kind ≡ kind_by (item_at items j).action → number ≡ size_field_for count
@@ -169,6 +170,7 @@ pub records_asked : (l : ℕ) (items : List BasketItem) (bytes slots prevs : Lis
 unfolding records_from records_for changes_from change_at takens_from
 records_asked l items bytes slots prevs i zero = refl
 records_asked l items bytes slots prevs i (suc n) =
-    ap₂ (λ (v : List ℕ) (rs : List BasketRecord). record { slot = get_or slots i 0; key = item_key_at l items i; kind = kind_by (item_at items i).action; value = v }
+    ap₂ (λ (v : List ℕ) (rs : List BasketRecord). record
+    { slot = get_or slots i 0; key = item_key_at l items i; kind = kind_by (item_at items i).action; value = v }
     ∷ rs)
     (value-by (item_at items i).action bytes i (item_at items i).length) (records_asked l items bytes slots prevs (suc i) n)

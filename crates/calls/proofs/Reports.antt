@@ -16,7 +16,8 @@ use Rattle.calls.specs.Change.{changed, write_compared, write_done, write_unless
 use Rattle.calls.specs.Get.{get_done, get_result}
 
 module _ (l : ℕ) (image : List ℕ) (i : Index) (key : ℕ) where
-  write_done_reports : (value : List ℕ) (t : ℕ) (rest : Index) (count : ℕ) (found : Found) → (write_done l image i key value t rest count found).compared ≡ count
+  write_done_reports : (value : List ℕ) (t : ℕ) (rest : Index) (count : ℕ) (found : Found)
+      → (write_done l image i key value t rest count found).compared ≡ count
   unfolding write_done changed unchanged
   write_done_reports value t rest count (At old prev compared) = refl
   write_done_reports value t rest count (Missing prev compared) = refl

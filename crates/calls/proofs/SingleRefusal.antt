@@ -12,7 +12,8 @@ use Rattle.index.specs.declared.State.{State}
 use Rattle.index.specs.declared.Mode.{Mode}
 use Rattle.index.specs.declared.Found.{Found}
 use Rattle.index.specs.declared.Found.TheVariants.{At, Missing, BadChain}
-use Rattle.calls.specs.Change.{changed, write_fault_by, write_done, write_unless, write_result_by, remove_fault_by, remove_done, remove_unless, remove_result_by}
+use Rattle.calls.specs.Change.{changed, write_fault_by, write_done, write_unless, write_result_by, remove_fault_by, remove_done, remove_unless}
+use Rattle.calls.specs.Change.{remove_result_by}
 use Rattle.calls.specs.Result.{CallResult, unchanged}
 use Rattle.calls.proofs.Results.{write_bad, remove_bad}
 

@@ -50,14 +50,16 @@ as_single compared r =
 module _ (own : Bool) (l : ℕ) (image : List ℕ) (i : Index) where
   pub write_fault_one : (mode : Mode) (key : ℕ) (value : List ℕ)
       → basket_fault_by own l image i (one_change (Write mode) key value) 16 16 ≡ write_fault_by own l image i mode key (length value)
-  unfolding basket_fault_by given_fault key_count_fault any_twice among lists_fault basket_lent_fault first_fault value_fault keys_fault action_fault sum_over inserts_by
+  unfolding basket_fault_by given_fault key_count_fault any_twice among lists_fault basket_lent_fault first_fault value_fault keys_fault action_fault sum_over
+      inserts_by
       removes_by inserts_of write_fault_by write_lent_fault write_later_fault or_else refuse_if
   write_fault_one Insert key value = simp (or_else_none, or_else_row) refl
   write_fault_one Replace key value = simp (or_else_none, or_else_row) refl
 
   pub remove_fault_one : (key old prev compared : ℕ) → search l image i.heads i.next key ≡ At old prev compared
       → basket_fault_by own l image i (one_change Remove key []) 16 16 ≡ remove_fault_by own l image i key
-  unfolding basket_fault_by given_fault key_count_fault any_twice among lists_fault basket_lent_fault first_fault value_fault keys_fault action_fault sum_over inserts_by
+  unfolding basket_fault_by given_fault key_count_fault any_twice among lists_fault basket_lent_fault first_fault value_fault keys_fault action_fault sum_over
+      inserts_by
       removes_by remove_fault_by remove_later_fault is_found chain_fault or_else refuse_if
   remove_fault_one key old prev compared e = simp (or_else_none, or_else_row, e) refl
 
@@ -80,7 +82,8 @@ module _ (l : ℕ) (image : List ℕ) (i : Index) (key s count : ℕ) where
       → changed l image i.state s key (kind_by action) (value_by action value) (link_by (slots_in image) (take_slot i t) action h old s)
       (i.state.live + inserts_by action - removes_by action) count
       ≡ made action value
-  unfolding changed as_single slot_first basket_made index_after basket_stores records_for taken_slots size_field_for basket_index all_taken_of link_all link_item items_for
+  unfolding changed as_single slot_first basket_made index_after basket_stores records_for taken_slots size_field_for basket_index all_taken_of link_all
+      link_item items_for
       sum_over
   is_made action value old e = simp (append-nil, unary_clauses, e) refl
 

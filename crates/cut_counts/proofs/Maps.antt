@@ -126,12 +126,14 @@ module _ (f : Table) (n : ℕ) (g : Table) (m : ℕ) where
     where
       first : (s : ℕ) → Slot n s → map_of f n (key_in (f s)) ≡ map_of g m (key_in (f s))
       first s i =
-          agree f n g m (key_in (f s)) (clear (λ t. differ_at f n g m (key_in (f t))) n (both_left (not (any_of (λ t. differ_at f n g m (key_in (f t))) 1 n)) _ e) s
+          agree f n g m (key_in (f s)) (clear (λ t. differ_at f n g m (key_in (f t))) n
+          (both_left (not (any_of (λ t. differ_at f n g m (key_in (f t))) 1 n)) _ e) s
           i)
 
       second : (s : ℕ) → Slot m s → map_of f n (key_in (g s)) ≡ map_of g m (key_in (g s))
       second s i =
-          agree f n g m (key_in (g s)) (clear (λ t. differ_at f n g m (key_in (g t))) m (both_right (not (any_of (λ t. differ_at f n g m (key_in (f t))) 1 n)) _ e) s
+          agree f n g m (key_in (g s)) (clear (λ t. differ_at f n g m (key_in (g t))) m
+          (both_right (not (any_of (λ t. differ_at f n g m (key_in (f t))) 1 n)) _ e) s
           i)
 
       go : Held f n k → Held g m k → map_of f n k ≡ map_of g m k

@@ -48,7 +48,8 @@ module _ (l : ℕ) (a ha na b hb nb : List ℕ) (i j : Indexed) (p : IndexedBy l
       sym
       (false_right (eqb (acceptance_fault l a) 0) _ (false_left (eqb (acceptance_fault l b) 0) _ (ne_eqb (acceptance_fault l b) 0 (λ z. r.1 (r.0 ∙ z)))))
 
-  pub both_mapped : (x y : ℕ) → i ≡ Map x → j ≡ Map y → (r : Bool) → r ≡ is_same_map (table_of l a) (slots_in a) (table_of l b) (slots_in b) → r ≡ have_one_map l a b
+  pub both_mapped : (x y : ℕ) → i ≡ Map x → j ≡ Map y → (r : Bool) → r ≡ is_same_map (table_of l a) (slots_in a) (table_of l b) (slots_in b)
+      → r ≡ have_one_map l a b
   unfolding have_one_map
   both_mapped x y d e r s =
       s

@@ -5,7 +5,8 @@
 use Rattle.std.specs.Prelude.{◌≡◌, List, ℕ, length}
 use Rattle.prelude.specs.Members.{All}
 use Rattle.prelude.specs.History.{Throughout}
-use Rattle.interface.specs.Set.{Accepted, Layout, World, PlainMap, Restart, restarted, slots_in, slots_map, call_result_by, call_result_by_rule, basket_call_result_by}
+use Rattle.interface.specs.Set.{Accepted, Layout, World, PlainMap, Restart, restarted, slots_in, slots_map, call_result_by, call_result_by_rule}
+use Rattle.interface.specs.Set.{basket_call_result_by}
 use Rattle.interface.specs.Set.{basket_call_result_by_rule}
 use Rattle.interface.specs.Event.{Event, effects_of, request_of, RestartFits, FitsBy}
 use Rattle.book.specs.Steps.{booked_by}

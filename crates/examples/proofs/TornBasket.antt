@@ -24,7 +24,8 @@ use Rattle.stores.specs.Basket.{basket_stores}
 use Rattle.stores.specs.Play.{word_numbers, values}
 use Rattle.stores.specs.Invalidation.{invalidating_store, invalidating_stores}
 use Rattle.sorting.specs.Sorted.{insert, sorted}
-use Rattle.table.specs.Table.{is_record, key_in, rank_for_key, next_version, decider, deciding_put, live, spare, live_count, is_broken, broken_count, broken_limit}
+use Rattle.table.specs.Table.{is_record, key_in, rank_for_key, next_version, decider, deciding_put, live, spare, live_count, is_broken, broken_count}
+use Rattle.table.specs.Table.{broken_limit}
 use Rattle.table.specs.Table.{many_broken, all_live}
 use Rattle.table.specs.Order.{rank_of, ordered, chain_of, reuse_of}
 use Rattle.table.specs.Complete.{basket_size, size_field_for, has_version, sharers, complete, version_if_complete, highest_complete, is_void, settled}
@@ -38,8 +39,10 @@ use Rattle.index.specs.Allocation.{with_taken, at_end, allocation_walk, allocate
 use Rattle.index.specs.Basket.{take_slot, all_taken_of, taken_slots, slot_before, before_in, link_by, link_item, link_all, basket_index}
 use Rattle.index.specs.declared.Action.{Action}
 use Rattle.index.specs.declared.Mode.TheVariants.{Insert}
-use Rattle.allocation.specs.Allocation.{allocation_by_rule, allocation_chosen, allocation_chosen_by, allocation_by, may_take_below, named_version, own_allocation}
-use Rattle.recovery.specs.Recover.{slots_fault, recover_fault, chains_of, place_of, recovered_index, recovered, recover_result, settled_fault, slots_named, recover_slot}
+use Rattle.allocation.specs.Allocation.{allocation_by_rule, allocation_chosen, allocation_chosen_by, allocation_by, may_take_below, named_version}
+use Rattle.allocation.specs.Allocation.{own_allocation}
+use Rattle.recovery.specs.Recover.{slots_fault, recover_fault, chains_of, place_of, recovered_index, recovered, recover_result, settled_fault, slots_named}
+use Rattle.recovery.specs.Recover.{recover_slot}
 use Rattle.recovery.specs.Invalidation.{void_slots, invalidations_of, stores_in}
 use Rattle.calls.specs.Format.{formatted}
 use Rattle.calls.specs.Change.{changed, write_lent_fault, write_later_fault, write_fault, write_done, write_unless, write_result, store_fault, write_fault_by}
@@ -49,7 +52,8 @@ use Rattle.calls.specs.BasketItems.{high_in, item_key, item_at, item_value, chan
 use Rattle.calls.specs.BasketRefusals.{key_count_fault, among, any_twice, lists_fault, given_fault, first_fault, value_fault, action_fault, basket_lent_fault}
 use Rattle.calls.specs.BasketRefusals.{keys_fault, inserts_by, removes_by, sum_over, basket_fault, basket_fault_by}
 use Rattle.calls.specs.Get.{length_fault, get_later_fault, get_fault, get_done, get_result}
-use Rattle.calls.specs.Basket.{kind_by, value_by, records_for, old_in, items_for, index_after, basket_made, basket_done, basket_unless, basket_result, basket_result_by}
+use Rattle.calls.specs.Basket.{kind_by, value_by, records_for, old_in, items_for, index_after, basket_made, basket_done, basket_unless, basket_result}
+use Rattle.calls.specs.Basket.{basket_result_by}
 use Rattle.calls.specs.declared.BasketItem.{BasketItem}
 use Rattle.plainmap.specs.World.{write, call_result, call_result_by, world_after, after_round, after_rounds, invalidated_world, restarted, reads_only}
 use Rattle.plainmap.specs.Baskets.{TypedItem, basket_call_result_by}
@@ -68,21 +72,35 @@ use Rattle.examples.proofs.Trial.{small_bytes}
 torn_computed : (answers_to empty_four torn_history ≡ torn_answers) × (void_count torn_image ≡ 2) × (void_count (after_round 1 torn_image invalidation_cut) ≡ 1)
     × (recover_fault 1 (formatted 1 640) (length one_head) (length four_slots) ≡ 0) × (slots_in (formatted 1 640) ≡ 4)
 unfolding word set_bytes set_word filter slot_numbers any_of tabulate greatest topmost lowest at_lowest count refuse_if or_else unless_refused content_of_record
-    content_by content_of content highest_whole highest_whole_in mark_fault kind_fault kind_limit bits_fault word_fault tail_fault fault_of record_fault header_word
-    header_fault image_fault index_fault lent_fault whole_version version_fault key_from key_of value_place slot_word value_word value_byte value_front value_of slots_of
-    paired highest_whole_of verdict_of line_verdict is_valid insert sorted invalidating_store invalidating_stores word_numbers values zipped played less standing
-    marked placed_word body_a body_b run line_stores record_stores basket_size has_version sharers complete version_if_complete highest_complete is_void settled rank_of
+    content_by content_of content highest_whole highest_whole_in mark_fault kind_fault kind_limit bits_fault word_fault tail_fault fault_of record_fault
+    header_word
+    header_fault image_fault index_fault lent_fault whole_version version_fault key_from key_of value_place slot_word value_word value_byte value_front value_of
+    slots_of
+    paired highest_whole_of verdict_of line_verdict is_valid insert sorted invalidating_store invalidating_stores word_numbers values zipped played less
+    standing
+    marked placed_word body_a body_b run line_stores record_stores basket_size has_version sharers complete version_if_complete highest_complete is_void settled
+    rank_of
     ordered chain_of reuse_of clashes sharers_fault is_record is_broken key_in rank_for_key next_version decider deciding_put live spare live_count broken_count
-    broken_limit many_broken all_live valid_version highest_valid is_remove older may_take first_of last_of after next_in chained take_first link_new append insert_at
-    replace_at remove_at key_fault is_found set_next set_start set_last link with_taken at_end allocation_walk allocate_from ends_fault link_fault few_fault reuse_fault
-    room_fault walk search chain_fault allocation_by_rule void_slots invalidations_of stores_in no_state settled_fault slots_fault slots_named recover_fault recover_slot
-    chains_of place_of recovered_index recovered recover_result unchanged store_fault changed write_lent_fault inserts_of write_later_fault write_fault_by allocation_by
-    write_done write_unless write_result_by formatted length_fault get_later_fault get_fault get_done get_result reads_only call_result call_result_by world_after after_round
-    after_rounds invalidated_world restarted image_cut step_by takeable_if high_in item_key item_at item_value change_at changes_from changes_of key_count_fault among
-    any_twice lists_fault given_fault first_fault value_fault action_fault basket_lent_fault keys_fault inserts_by removes_by sum_over basket_fault_by kind_by value_by
-    records_for old_in items_for index_after basket_made basket_done basket_unless basket_result_by allocation_chosen_by basket_call_result_by own_allocation may_take_below
-    named_version take_slot all_taken_of taken_slots slot_before before_in link_by link_item link_all basket_index basket_stores size_field_for allocation_chosen may_take_after
-    any_in answer_to answers_to item eighty_bytes basket_bytes basket_given three_items two_items four_slots tearing invalidation_cut two_cuts empty_four after_tearing
+    broken_limit many_broken all_live valid_version highest_valid is_remove older may_take first_of last_of after next_in chained take_first link_new append
+    insert_at
+    replace_at remove_at key_fault is_found set_next set_start set_last link with_taken at_end allocation_walk allocate_from ends_fault link_fault few_fault
+    reuse_fault
+    room_fault walk search chain_fault allocation_by_rule void_slots invalidations_of stores_in no_state settled_fault slots_fault slots_named recover_fault
+    recover_slot
+    chains_of place_of recovered_index recovered recover_result unchanged store_fault changed write_lent_fault inserts_of write_later_fault write_fault_by
+    allocation_by
+    write_done write_unless write_result_by formatted length_fault get_later_fault get_fault get_done get_result reads_only call_result call_result_by
+    world_after after_round
+    after_rounds invalidated_world restarted image_cut step_by takeable_if high_in item_key item_at item_value change_at changes_from changes_of key_count_fault
+    among
+    any_twice lists_fault given_fault first_fault value_fault action_fault basket_lent_fault keys_fault inserts_by removes_by sum_over basket_fault_by kind_by
+    value_by
+    records_for old_in items_for index_after basket_made basket_done basket_unless basket_result_by allocation_chosen_by basket_call_result_by own_allocation
+    may_take_below
+    named_version take_slot all_taken_of taken_slots slot_before before_in link_by link_item link_all basket_index basket_stores size_field_for
+    allocation_chosen may_take_after
+    any_in answer_to answers_to item eighty_bytes basket_bytes basket_given three_items two_items four_slots tearing invalidation_cut two_cuts empty_four
+    after_tearing
     torn_history torn_answers torn_image void_count small one_head recovering request_effects
 torn_computed = (refl, refl, refl, refl, refl)
 

@@ -22,7 +22,8 @@ use Rattle.stores.specs.Written.{marked, placed_word, body_a, body_b, run, line_
 use Rattle.stores.specs.Play.{word_numbers, values}
 use Rattle.stores.specs.Invalidation.{invalidating_store, invalidating_stores}
 use Rattle.sorting.specs.Sorted.{insert, sorted}
-use Rattle.table.specs.Table.{is_record, key_in, rank_for_key, next_version, decider, deciding_put, live, spare, live_count, is_broken, broken_count, broken_limit}
+use Rattle.table.specs.Table.{is_record, key_in, rank_for_key, next_version, decider, deciding_put, live, spare, live_count, is_broken, broken_count}
+use Rattle.table.specs.Table.{broken_limit}
 use Rattle.table.specs.Table.{many_broken, all_live}
 use Rattle.table.specs.Order.{rank_of, ordered, chain_of, reuse_of}
 use Rattle.table.specs.Complete.{basket_size, has_version, sharers, complete, version_if_complete, highest_complete, is_void, settled}
@@ -35,10 +36,12 @@ use Rattle.index.specs.Change.{inserts_of, take_first, link_new, append, key_fau
 use Rattle.index.specs.Walk.{walk, search, chain_fault}
 use Rattle.index.specs.Allocation.{with_taken, at_end, allocation_walk, allocate_from, ends_fault, link_fault, few_fault, reuse_fault, room_fault}
 use Rattle.allocation.specs.Allocation.{allocation_by_rule, allocation_by}
-use Rattle.recovery.specs.Recover.{slots_fault, recover_fault, chains_of, place_of, recovered_index, recovered, recover_result, settled_fault, slots_named, recover_slot}
+use Rattle.recovery.specs.Recover.{slots_fault, recover_fault, chains_of, place_of, recovered_index, recovered, recover_result, settled_fault, slots_named}
+use Rattle.recovery.specs.Recover.{recover_slot}
 use Rattle.recovery.specs.Invalidation.{void_slots, invalidations_of, stores_in}
 use Rattle.calls.specs.Format.{formatted}
-use Rattle.calls.specs.Change.{changed, write_lent_fault, write_later_fault, write_fault, write_done, write_unless, write_result, remove_later_fault, remove_fault}
+use Rattle.calls.specs.Change.{changed, write_lent_fault, write_later_fault, write_fault, write_done, write_unless, write_result, remove_later_fault}
+use Rattle.calls.specs.Change.{remove_fault}
 use Rattle.calls.specs.Change.{remove_done, remove_unless, remove_result, store_fault, remove_fault_by, remove_result_by, write_fault_by, write_result_by}
 use Rattle.calls.specs.Result.{unchanged}
 use Rattle.calls.specs.Get.{length_fault, get_later_fault, get_fault, get_done, get_result}
@@ -59,17 +62,27 @@ session_computed : (answers 1 (fresh 1) session ≡ expected) × (outputs 1 (fre
     × (answers 2 (fresh 2) second_session ≡ expected) × (outputs 2 (fresh 2) second_session ≡ expected_outputs)
     × (recover_fault 2 (formatted 2 384) (length one_head) (length two_slots) ≡ 0) × (slots_in (formatted 2 384) ≡ 2)
 unfolding word set_bytes set_word filter slot_numbers any_of tabulate greatest topmost lowest at_lowest count refuse_if or_else unless_refused content_of_record
-    content_by content_of content highest_whole highest_whole_in mark_fault kind_fault kind_limit bits_fault word_fault tail_fault fault_of record_fault header_word
-    header_fault image_fault index_fault lent_fault whole_version version_fault key_from key_of value_place slot_word value_word value_byte value_front value_of slots_of
-    paired highest_whole_of verdict_of line_verdict is_valid insert sorted invalidating_store invalidating_stores word_numbers values zipped played less standing
-    marked placed_word body_a body_b run line_stores record_stores basket_size has_version sharers complete version_if_complete highest_complete is_void settled rank_of
+    content_by content_of content highest_whole highest_whole_in mark_fault kind_fault kind_limit bits_fault word_fault tail_fault fault_of record_fault
+    header_word
+    header_fault image_fault index_fault lent_fault whole_version version_fault key_from key_of value_place slot_word value_word value_byte value_front value_of
+    slots_of
+    paired highest_whole_of verdict_of line_verdict is_valid insert sorted invalidating_store invalidating_stores word_numbers values zipped played less
+    standing
+    marked placed_word body_a body_b run line_stores record_stores basket_size has_version sharers complete version_if_complete highest_complete is_void settled
+    rank_of
     ordered chain_of reuse_of clashes sharers_fault is_record is_broken key_in rank_for_key next_version decider deciding_put live spare live_count broken_count
-    broken_limit many_broken all_live valid_version highest_valid is_remove older may_take first_of last_of after next_in chained take_first link_new append insert_at
-    replace_at remove_at key_fault is_found set_next set_start set_last link with_taken at_end allocation_walk allocate_from ends_fault link_fault few_fault reuse_fault
-    room_fault walk search chain_fault allocation_by_rule void_slots invalidations_of stores_in no_state settled_fault slots_fault slots_named recover_fault recover_slot
-    chains_of place_of recovered_index recovered recover_result unchanged store_fault changed write_lent_fault inserts_of write_later_fault write_fault_by allocation_by
-    write_done write_unless write_result_by remove_later_fault remove_fault_by remove_done remove_unless remove_result_by formatted length_fault get_later_fault get_fault
-    get_done get_result locate_fault locate_done locate_answer reads_only call_result world_after after_round after_rounds invalidated_world restarted image_cut step_by
+    broken_limit many_broken all_live valid_version highest_valid is_remove older may_take first_of last_of after next_in chained take_first link_new append
+    insert_at
+    replace_at remove_at key_fault is_found set_next set_start set_last link with_taken at_end allocation_walk allocate_from ends_fault link_fault few_fault
+    reuse_fault
+    room_fault walk search chain_fault allocation_by_rule void_slots invalidations_of stores_in no_state settled_fault slots_fault slots_named recover_fault
+    recover_slot
+    chains_of place_of recovered_index recovered recover_result unchanged store_fault changed write_lent_fault inserts_of write_later_fault write_fault_by
+    allocation_by
+    write_done write_unless write_result_by remove_later_fault remove_fault_by remove_done remove_unless remove_result_by formatted length_fault get_later_fault
+    get_fault
+    get_done get_result locate_fault locate_done locate_answer reads_only call_result world_after after_round after_rounds invalidated_world restarted image_cut
+    step_by
     answers outputs small one_head two_slots recovering cut_at fresh session_with expected expected_outputs takeable_if
 session_computed = (refl, refl, refl, refl, refl, refl, refl, refl)
 
@@ -118,7 +131,8 @@ module _ (l a b : ℕ) (a-sized : a < (2 ^ 64) ^ l) (b-sized : b < (2 ^ 64) ^ l)
       → HistoryCorrect l (fresh l) (slots_map l (formatted l 384)) (as_requests (session_with a b))
   unfolding fresh recovering
   holds layout accepted slots =
-      (cut_rule l layout (formatted l 384) (recovering two_slots) ((call_laws l layout).accepted (formatted l 384) (length one_head) (length two_slots) accepted)
+      (cut_rule l layout (formatted l 384) (recovering two_slots)
+      ((call_laws l layout).accepted (formatted l 384) (length one_head) (length two_slots) accepted)
       (rw slots restart_fits) (as_requests (session_with a b)) (rw slots session_fits)).1
 
 pub session_holds : HistoryCorrect 1 (fresh 1) (slots_map 1 (formatted 1 384)) (as_requests session)

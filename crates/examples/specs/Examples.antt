@@ -188,7 +188,8 @@ examples =
     ∷ row (values (record_stores 2 (words []) 1 key_b 1 0 (replicate 24 0 ++ (5 ∷ [])) 4))
     (1 ∷ 7 ∷ 2 ∷ 6401 ∷ 0 ∷ 0 ∷ 0 ∷ 9 ∷ 1 ∷ 5 ∷ 0 ∷ 0 ∷ 0 ∷ 0 ∷ 0 ∷ 9 ∷ [])
     -- "a value of at most 72 bytes"; two keys with one low word are two
-    ∷ row (answers_in 2 second_set (write Insert key_a (replicate 72 5) ∷ write Replace key_a (replicate 73 5) ∷ write Insert key_b [] ∷ write Insert key_a [] ∷ []))
+    ∷ row (answers_in 2 second_set
+    (write Insert key_a (replicate 72 5) ∷ write Replace key_a (replicate 73 5) ∷ write Insert key_b [] ∷ write Insert key_a [] ∷ []))
     (0 ∷ 1 ∷ 1 ∷ 2 ∷ 10 ∷ 0 ∷ 2 ∷ 2 ∷ 2 ∷ 20 ∷ [])
     ∷ row (answers_in 2 second_set (write Insert key_a (replicate 72 5) ∷ get key_a (replicate 72 0) ∷ get key_b [] ∷ remove key_b ∷ remove key_a ∷ []))
     (0 ∷ 1 ∷ 1 ∷ 0 ∷ 72 ∷ 1 ∷ 1 ∷ 0 ∷ 2 ∷ 2 ∷ [])

@@ -52,7 +52,8 @@ module _ (slots prevs : List ℕ) (count : ℕ) (next₀ : List ℕ) (s₀ : Sta
   module _ (next : List ℕ) (s : State) (j : ℕ) (w : Leaving slots prevs count next₀ s₀ next s j) where
     one_left : (heads : List ℕ) → j < count
         → all_taken_of (index_of heads next s) (takens_from slots prevs j (count - j))
-        ≡ all_taken_of (index_of heads (link_next next (get_or prevs j 0) (get_or next (get_or slots j 0) 0)) (left_state next s (get_or slots j 0) (get_or prevs j 0)))
+        ≡ all_taken_of (index_of heads (link_next next (get_or prevs j 0) (get_or next (get_or slots j 0) 0))
+        (left_state next s (get_or slots j 0) (get_or prevs j 0)))
         (takens_from slots prevs (j + 1) (count - (j + 1)))
     unfolding takens_from all_taken_of
     one_left heads h =

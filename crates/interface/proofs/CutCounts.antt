@@ -205,7 +205,8 @@ module _ (l : ℕ) (lay : Layout l) (w : World) (m : PlainMap) (g : Refines l w 
     left_clear : acceptance_fault l (left a b) ≡ 0
     left_clear =
         let same : slots_in (left a b) ≡ slots_in w.image = ap slots_of (cut_length w.image (word_numbers ss) (values ss) a b) in
-        let size : index_fault (slots_in (left a b)) (length heads) (length next) ≡ 0 = ap (λ (n : ℕ). index_fault n (length heads) (length next)) same ∙ fits in
+        let size : index_fault (slots_in (left a b)) (length heads) (length next)
+        ≡ 0 = ap (λ (n : ℕ). index_fault n (length heads) (length next)) same ∙ fits in
         accepted_clear l (left a b) heads next (record { size = size }) (left_recovers.accepts heads next size)
 
     -- the map that it leaves

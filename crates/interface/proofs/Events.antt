@@ -135,7 +135,8 @@ module _ (l : ℕ) (lay : Layout l) (w : World) (m : PlainMap) (g : Refines l w 
   basket_denied : (b : Basket) → TypedBasket l b → is_refusal (basket_call_result l w b).answer ≡ refuses (expected_basket_refusal l w m b)
   basket_denied b s = basket_refuses l w m b (basket_answers b s)
 
-  pub basket_agrees : (event : Event Basket) → FitsBy (TypedBasket l) (slots_in w.image) event → Refines l (basket_step l w event) (map_after_basket l w m event)
+  pub basket_agrees : (event : Event Basket) → FitsBy (TypedBasket l) (slots_in w.image) event
+      → Refines l (basket_step l w event) (map_after_basket l w m event)
   unfolding step_by plain_event is_whole
   basket_agrees (done b) (done_fits s) = agrees_after l w m g (basket_updates b.changes) (basket_call_result l w b) _ (basket_denied b s) (basket_steps b s)
   basket_agrees (struck b cut) (struck_fits s c) =

@@ -54,7 +54,8 @@ use Rattle.calls.specs.Change.{remove_later_fault, remove_done, remove_unless, r
 use Rattle.calls.specs.Change.{write_result_by}
 use Rattle.calls.specs.Result.{CallResult, unchanged, ReadOnlyResult}
 use Rattle.calls.specs.BasketItems.{KeyChange}
-use Rattle.calls.specs.BasketRefusals.{key_count_fault, lists_fault, given_fault, first_fault, value_fault, action_fault, basket_lent_fault, keys_fault, basket_fault}
+use Rattle.calls.specs.BasketRefusals.{key_count_fault, lists_fault, given_fault, first_fault, value_fault, action_fault, basket_lent_fault, keys_fault}
+use Rattle.calls.specs.BasketRefusals.{basket_fault}
 use Rattle.calls.specs.BasketRefusals.{basket_fault_by}
 use Rattle.calls.specs.Basket.{basket_made, basket_done, basket_unless, basket_result, basket_result_by}
 use Rattle.calls.specs.Get.{length_fault, get_later_fault, get_fault, get_done, get_result}
@@ -369,7 +370,8 @@ module _ (l : ℕ) (image heads next : List ℕ) (key : ℕ) where
   unfolding length_fault
   get_numbered out =
       get_by get_refusals refl refl refl refl refl out
-      (λ n. refuse_if_due get_refusals _ 23 _ (one_of 23 get_refusals refl) (refuse_if_due get_refusals _ 13 0 (one_of 13 get_refusals refl) (none_due get_refusals)))
+      (λ n. refuse_if_due get_refusals _ 23 _ (one_of 23 get_refusals refl)
+      (refuse_if_due get_refusals _ 13 0 (one_of 13 get_refusals refl) (none_due get_refusals)))
 
   roomy_due : (ks : List ℕ) → is_one 23 ks ≡ true → (n size : ℕ) → limit l ≤ size → ZeroOrOneOf ks (length_fault l n size)
   unfolding length_fault refuse_if

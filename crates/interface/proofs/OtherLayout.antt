@@ -18,7 +18,8 @@ use Rattle.slot_counts.specs.Count.{CountResult, count_says, count_result}
 use Rattle.cut_counts.specs.CutCount.{acceptance_fault, cut_count_fault, cut_count_result}
 use Rattle.calls.specs.Compared.{compared_after, key_compared}
 use Rattle.allocation.specs.Allocation.{allocation_chosen_by, allocation_by}
-use Rattle.calls.specs.Change.{write_lent_fault, write_fault, write_unless, write_result, write_compared, remove_fault, remove_unless, remove_result, remove_fault_by}
+use Rattle.calls.specs.Change.{write_lent_fault, write_fault, write_unless, write_result, write_compared, remove_fault, remove_unless, remove_result}
+use Rattle.calls.specs.Change.{remove_fault_by}
 use Rattle.calls.specs.Change.{remove_result_by, write_fault_by, write_result_by}
 use Rattle.calls.specs.Result.{CallResult, unchanged}
 use Rattle.calls.specs.BasketItems.{KeyChange}

@@ -73,7 +73,8 @@ step l w event = step_by l (λ v call. effects_of (call_result l v call)) w even
 -- refuse the call
 abbrev pub map_after_event : (l : ℕ) → World → PlainMap → Event Call → PlainMap
 map_after_event l w m event =
-    plain_event (is_whole (λ v call. effects_of (call_result l v call)) w event) (updates (request_of event)) (refuses (expected_refusal l w m (request_of event))) m
+    plain_event (is_whole (λ v call. effects_of (call_result l v call)) w event) (updates (request_of event))
+    (refuses (expected_refusal l w m (request_of event))) m
 
 abbrev pub Fits : (l n : ℕ) → Event Call → Type 0
 Fits l n event = FitsBy (Typed l) n event

@@ -16,7 +16,8 @@ use Rattle.calls.specs.BasketItems.{KeyChange, changes_of}
 use Rattle.calls.specs.BasketRefusals.{basket_fault}
 use Rattle.calls.specs.declared.BasketItem.{BasketItem}
 use Rattle.calls.specs.Format.{formatted}
-use Rattle.plainmap.specs.World.{World, Call, write, remove, call_result, Restart, invalidated_world, restarted, recovered_world, call_result_by, call_result_by_rule}
+use Rattle.plainmap.specs.World.{World, Call, write, remove, call_result, Restart, invalidated_world, restarted, recovered_world, call_result_by}
+use Rattle.plainmap.specs.World.{call_result_by_rule}
 use Rattle.index.specs.declared.Mode.{Mode}
 use Rattle.index.specs.Index.{Index}
 use Rattle.plainmap.specs.Plain.{PlainMap}

@@ -58,7 +58,8 @@ unfoldable pub use Rattle.calls.specs.Locate.{locate_says}
 -- the world between calls, and the plain map
 pub use Rattle.plainmap.specs.World.{World, Call, write, remove, get, locate}
 pub use Rattle.plainmap.specs.World.{out_of}
-unfoldable pub use Rattle.plainmap.specs.World.{call_result_by, call_result_by_rule, call_result, finished, world_after, recovered_world, invalidated_world, restarted}
+unfoldable pub use Rattle.plainmap.specs.World.{call_result_by, call_result_by_rule, call_result, finished, world_after, recovered_world, invalidated_world}
+unfoldable pub use Rattle.plainmap.specs.World.{restarted}
 unfoldable pub use Rattle.plainmap.specs.World.{reads_only}
 pub use Rattle.plainmap.specs.World.{Round, Restart}
 unfoldable pub use Rattle.plainmap.specs.World.{after_round, after_rounds}

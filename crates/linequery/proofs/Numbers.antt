@@ -16,7 +16,8 @@ slices_due ks short line answer = one_due ks _ 33 _ short (one_due ks _ 33 0 sho
 
 next_due : (line answer version : ℕ) → ZeroOrOneOf next_refusals (next_fault line answer version)
 unfolding next_fault version_fault
-next_due line answer version = else_due next_refusals _ _ (slices_due next_refusals refl line answer) (one_due next_refusals _ 9 0 refl (none_due next_refusals))
+next_due line answer version =
+    else_due next_refusals _ _ (slices_due next_refusals refl line answer) (one_due next_refusals _ 9 0 refl (none_due next_refusals))
 
 -- THE NUMBERS of the queries
 pub query_numbers : QueryNumbers

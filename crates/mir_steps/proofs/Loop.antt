@@ -6,7 +6,7 @@
 --     tests            the loop's test: where it holds the turn goes on, and where it fails the loop is left
 -- `tests` assumes `Logic`.
 use mathlib.Core.Path.{◌≡◌}
-use mathlib.Core.Bool.{Bool, not}
+use mathlib.Core.Bool.{not}
 use mathlib.Core.List.{List}
 use Prim.Native.Nat.{ℕ, ◌+◌, ◌-◌, ◌≤◌, ◌<◌}
 use native.Mathlib.Nat.{le_antisymm}

@@ -9,7 +9,7 @@ use Prim.Native.Nat.{ℕ, zero, ◌+◌}
 use mathlib.Core.Option.{some}
 use mathlib.Core.List.{List, [], ◌∷◌}
 use seplogic.Ra.Ura.{Ura}
-use seplogic.Ra.TreeShare.{full_share}
+use base.Fraction.{full_share}
 use lib.Dec.{T}
 use mir.Syntax.{Sym, Ty, Tys, ty_struct, field, place, copy, Rv as RValue, Body, seq, assign}
 use mir.Val.{Val, Vals, vstruct, WT, has_ty}

@@ -44,9 +44,11 @@ use Rattle.allocation.specs.Allocation.{allocation_by_rule, allocation_chosen_by
 use Rattle.calls.specs.Change.{store_fault}
 use Rattle.calls.specs.Result.{unchanged, CallResult}
 use Rattle.calls.specs.BasketItems.{KeyChange}
-use Rattle.calls.specs.BasketRefusals.{any_twice, key_count_fault, given_fault, first_fault, value_fault, action_fault, basket_lent_fault, keys_fault, inserts_by}
+use Rattle.calls.specs.BasketRefusals.{any_twice, key_count_fault, given_fault, first_fault, value_fault, action_fault, basket_lent_fault, keys_fault}
+use Rattle.calls.specs.BasketRefusals.{inserts_by}
 use Rattle.calls.specs.BasketRefusals.{removes_by, sum_over, basket_fault, basket_fault_by}
-use Rattle.calls.specs.Basket.{kind_by, value_by, records_for, old_in, items_for, index_after, basket_made, basket_done, basket_unless, basket_result, basket_by_rule}
+use Rattle.calls.specs.Basket.{kind_by, value_by, records_for, old_in, items_for, index_after, basket_made, basket_done, basket_unless, basket_result}
+use Rattle.calls.specs.Basket.{basket_by_rule}
 use Rattle.calls.specs.Basket.{basket_result_by}
 use Rattle.table.proofs.defs.Entries.{record_of}
 use Rattle.plainmap.specs.World.{World}
@@ -76,7 +78,8 @@ same_update (dropping key) m m' q k = ap (λ (o : Option (List ℕ)). cond (eqb 
 module _ (version : ℕ) (new : Table) where
   -- the change of one record is that of its key
   update_one : (a : Action) (key : ℕ) (value : List ℕ) (m : PlainMap) (k : ℕ)
-      → cond (eqb k (key_in (content_of_record (kind_by a) version key (value_by a value)))) (value_in (content_of_record (kind_by a) version key (value_by a value)))
+      → cond (eqb k (key_in (content_of_record (kind_by a) version key (value_by a value))))
+      (value_in (content_of_record (kind_by a) version key (value_by a value)))
       (m k) ≡
       updated (key_update a key value) m k
   unfolding kind_by value_by content_of_record key_in value_in updated key_update

@@ -58,7 +58,8 @@ use Rattle.allocation.proofs.Choices.{choice_own}
 use Rattle.calls.specs.Change.{store_fault}
 use Rattle.calls.specs.Basket.{kind_by, value_by, records_for, old_in, items_for}
 use Rattle.calls.specs.BasketItems.{KeyChange}
-use Rattle.calls.specs.BasketRefusals.{key_count_fault, among, any_twice, given_fault, first_fault, value_fault, action_fault, basket_lent_fault, keys_fault, inserts_by}
+use Rattle.calls.specs.BasketRefusals.{key_count_fault, among, any_twice, given_fault, first_fault, value_fault, action_fault, basket_lent_fault, keys_fault}
+use Rattle.calls.specs.BasketRefusals.{inserts_by}
 use Rattle.calls.specs.BasketRefusals.{removes_by, sum_over, basket_fault, basket_fault_by}
 use Rattle.table.proofs.defs.Entries.{record_of, record_at}
 use Rattle.table.proofs.Entries.{slots_length, EntryAt, entry_at, made_record, made_key}
@@ -357,7 +358,8 @@ module _ (l : ℕ) (lay : Layout l) (w : World) (chains : Chain → List ℕ) (a
   place = place_of (table_of l w.image) n b
 
   -- where the old record of a held key stands
-  pub old_place : (key : ℕ) → 0 < holder f n key → Slot n (holder f n key) × (place (holder f n key) ≡ head (head_of key b)) × (key_in (f (holder f n key)) ≡ key)
+  pub old_place : (key : ℕ) → 0 < holder f n key → Slot n (holder f n key) × (place (holder f n key) ≡ head (head_of key b))
+      × (key_in (f (holder f n key)) ≡ key)
   old_place key h = go (is_holder f n key h)
     where
       go : Holder f n key → Slot n (holder f n key) × (place (holder f n key) ≡ head (head_of key b)) × (key_in (f (holder f n key)) ≡ key)

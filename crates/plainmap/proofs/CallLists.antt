@@ -117,7 +117,8 @@ opened_sound : (l : ℕ) (lay : Layout l) (image heads next : List ℕ) (a : Acc
 unfolding invalidated_world world_after recovered_world
 opened_sound l lay image heads next a s =
     some_sound _
-    (subst (λ (t : List ℕ). IndexConsistent l (world_after t (recover_result l image heads next)) (chains_of (table_of l image) (slots_in image) (length heads)))
+    (subst (λ (t : List ℕ). IndexConsistent l (world_after t (recover_result l image heads next))
+    (chains_of (table_of l image) (slots_in image) (length heads)))
     (sym (opened-image l lay image a heads next s))
     (sound_same l (recovered_world l image heads next) _ _ (opened_same l lay image a (λ k. 8)) (recovered_sound l image heads next a s)))
 

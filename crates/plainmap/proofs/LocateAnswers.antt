@@ -46,10 +46,12 @@ locate-done l image key chain found (sees_held {old} xs ys v d p i q e m u) =
     ap (λ (x : ℕ). gives (old ∷ x ∷ [])) (line_version l image old e)
     ∙ ap (λ (s : ℕ). gives (s ∷ highest_whole_in (table_of l image s) ∷ [])) (sym q)
     ∙ sym (ap (λ (o : Option (List ℕ)). cond (is_held o)
-    (gives (decider (table_of l image) (slots_in image) key ∷ highest_whole_in (table_of l image (decider (table_of l image) (slots_in image) key)) ∷ [])) absent) m)
+    (gives (decider (table_of l image) (slots_in image) key ∷ highest_whole_in (table_of l image (decider (table_of l image) (slots_in image) key)) ∷ []))
+    absent) m)
 locate-done l image key chain found (sees_absent p m) =
     sym (ap (λ (o : Option (List ℕ)). cond (is_held o)
-    (gives (decider (table_of l image) (slots_in image) key ∷ highest_whole_in (table_of l image (decider (table_of l image) (slots_in image) key)) ∷ [])) absent) m)
+    (gives (decider (table_of l image) (slots_in image) key ∷ highest_whole_in (table_of l image (decider (table_of l image) (slots_in image) key)) ∷ []))
+    absent) m)
 
 not_refused : (held : Bool) (values : List ℕ) → refusal_in (cond held (gives values) absent) ≡ 0
 unfolding refusal_in

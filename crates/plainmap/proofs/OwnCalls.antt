@@ -20,7 +20,8 @@ use Rattle.index.specs.declared.Mode.{Mode}
 use Rattle.allocation.specs.Allocation.{allocation_by_rule, allocation_chosen, own_allocation, allocation_by, allocation_chosen_by}
 use Rattle.allocation.proofs.Own.{own_taken}
 use Rattle.allocation.proofs.Choices.{choice_own}
-use Rattle.calls.specs.Change.{store_fault, write_lent_fault, write_later_fault, write_fault_by, write_unless, write_result_by, write_result, remove_later_fault}
+use Rattle.calls.specs.Change.{store_fault, write_lent_fault, write_later_fault, write_fault_by, write_unless, write_result_by, write_result}
+use Rattle.calls.specs.Change.{remove_later_fault}
 use Rattle.calls.specs.Change.{remove_fault_by, remove_unless, remove_result_by, remove_result}
 use Rattle.calls.specs.Result.{CallResult}
 use Rattle.calls.specs.BasketItems.{KeyChange}

@@ -51,7 +51,8 @@ HasRoom l image = RoomToTake (table_of l image) (slots_in image)
 -- A FORMATTED IMAGE has room
 pub formatted_room : (l len : ℕ) → (slots_of len ≡ 0 → ⊥) → l < 2 ^ 64 → HasRoom l (formatted l len)
 formatted_room l len ne b =
-    format_room (contents_of l (formatted l len)) (size_fields_of l (formatted l len)) (slots_in (formatted l len)) (λ t i. formatted_content l l len t ne b i.0)
+    format_room (contents_of l (formatted l len)) (size_fields_of l (formatted l len)) (slots_in (formatted l len))
+    (λ t i. formatted_content l l len t ne b i.0)
     (some (slots_in (formatted l len)) (λ z. ne (sym (ap slots_of (formatted-length l len)) ∙ z)))
   where
     some : (n : ℕ) → (n ≡ 0 → ⊥) → 1 ≤ n
@@ -74,7 +75,8 @@ module _ (l : ℕ) (w : World) (us : List Update) (r : CallResult) (accepted : A
     abbrev f' : Table
     f' = contents_of l image'
 
-    whole_room : Finished f' (size_fields_of l image') (basket_slots es) (record_at (next_of l w.image) es) → RoomToTake (settled f' (size_fields_of l image') n) n
+    whole_room : Finished f' (size_fields_of l image') (basket_slots es) (record_at (next_of l w.image) es)
+        → RoomToTake (settled f' (size_fields_of l image') n) n
     whole_room z =
         let st = struck l w es i alive newest accepted wr counts in
         let same = finished_settled wr.basket st z in

@@ -47,7 +47,8 @@ use Rattle.calls.specs.Change.{remove_done, remove_unless, remove_result, remove
 use Rattle.calls.specs.Compared.{key_compared}
 use Rattle.calls.specs.Result.{CallResult, unchanged}
 use Rattle.calls.specs.BasketItems.{KeyChange}
-use Rattle.calls.specs.BasketRefusals.{key_count_fault, among, any_twice, lists_fault, given_fault, first_fault, value_fault, action_fault, inserts_by, removes_by}
+use Rattle.calls.specs.BasketRefusals.{key_count_fault, among, any_twice, lists_fault, given_fault, first_fault, value_fault, action_fault, inserts_by}
+use Rattle.calls.specs.BasketRefusals.{removes_by}
 use Rattle.calls.specs.BasketRefusals.{sum_over, basket_fault}
 use Rattle.calls.specs.Basket.{basket_made, index_after}
 use Rattle.calls.proofs.Singles.{one_change, slot_first, as_single, write_fault_one, remove_fault_one, made, insert_one, replace_one, remove_one}
@@ -83,7 +84,8 @@ long_first false later = refl
 
 write_rule : (l : ℕ) (r : Room) (m : PlainMap) (mode : Mode) (key : ℕ) (value : List ℕ)
     → basket_rule l r m (one_key (Write mode) key value) ≡ rule_fault l r m (write mode key value)
-unfolding basket_rule rule_fault given_fault key_count_fault any_twice among lists_fault first_fault value_fault action_fault sum_over inserts_by removes_by inserts_of
+unfolding basket_rule rule_fault given_fault key_count_fault any_twice among lists_fault first_fault value_fault action_fault sum_over inserts_by removes_by
+    inserts_of
     or_else refuse_if
 write_rule l r m Insert key value =
     simp or_else_none (long_first (ltb (limit l) (length value)) (or_else (key_fault Insert (is_held (m key))) (room_rule r 1 1 0)))
@@ -91,7 +93,8 @@ write_rule l r m Replace key value =
     simp or_else_none (long_first (ltb (limit l) (length value)) (or_else (key_fault Replace (is_held (m key))) (room_rule r 1 0 0)))
 
 remove_rule : (l : ℕ) (r : Room) (m : PlainMap) (key : ℕ) → is_held (m key) ≡ true → basket_rule l r m (one_key Remove key []) ≡ rule_fault l r m (remove key)
-unfolding basket_rule rule_fault given_fault key_count_fault any_twice among lists_fault first_fault value_fault action_fault sum_over inserts_by removes_by or_else refuse_if
+unfolding basket_rule rule_fault given_fault key_count_fault any_twice among lists_fault first_fault value_fault action_fault sum_over inserts_by removes_by
+    or_else refuse_if
 remove_rule l r m key e = simp e refl
 
 -- ---- the answer of a single call is a refusal where that of its basket is

@@ -42,7 +42,8 @@ module _ (num : SizeFields) (ranks order : List ℕ) (i k : ℕ) (e : k ≡ bask
   unfolding too_many
   too_many_test a b h p q =
       ap₂ eqb (p ∙ ap (λ (x : ℕ). entry_at ranks order (i + x)) e) q
-      ∙ second (ltb (i + basket_size (num (get_or order i 0))) (length order)) _ (lt-ltb (i + basket_size (num (get_or order i 0))) (length order) (omega arith))
+      ∙ second (ltb (i + basket_size (num (get_or order i 0))) (length order)) _
+      (lt-ltb (i + basket_size (num (get_or order i 0))) (length order) (omega arith))
 
   pub full_short : i + 1 < k → false ≡ full_run num ranks order i
   unfolding full_run

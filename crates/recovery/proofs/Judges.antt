@@ -153,7 +153,8 @@ module _ (l : ℕ) (image : List ℕ) (n b : ℕ) (ranks lows highs places₁ or
   late_by shared broken live = refuse_if shared 7 (refuse_if (ltb broken_limit broken) 25 (refuse_if (eqb live n) 8 0))
 
   late : late_by (sharers_fault (contents_of l image) (size_fields_of l image) n) broken live-count
-      ≡ refuse_if (sharers_fault (contents_of l image) (size_fields_of l image) n) 7 (settled_fault (settled (contents_of l image) (size_fields_of l image) n) n)
+      ≡ refuse_if (sharers_fault (contents_of l image) (size_fields_of l image) n) 7
+      (settled_fault (settled (contents_of l image) (size_fields_of l image) n) n)
   unfolding settled_fault all_live many_broken
   late = go (split (sharers_fault raw num n))
     where
@@ -227,7 +228,8 @@ module _ (ranks lows highs order by_key : List ℕ) (n : ℕ) (o : InOrder ranks
 
 -- broken and void slots can be counted together
 pub broken_fits : (l : ℕ) (m : ℕ → ℕ) (n b : ℕ) (ranks lows highs places : List ℕ) (all : Scan) (limit : ℕ) (opened : Invalidations)
-    → Scanned l m n b ranks lows highs places all → opened ≡ invalidations_of (invalidating_stores m (filter (λ s. ltb limit (get_or ranks s 0)) (slot_numbers n)))
+    → Scanned l m n b ranks lows highs places all → opened ≡ invalidations_of
+    (invalidating_stores m (filter (λ s. ltb limit (get_or ranks s 0)) (slot_numbers n)))
     → all.classes.broken + opened.count ≤ n + n
 unfolding broken_count invalidations_of
 broken_fits l m n b ranks lows highs places all limit opened s e =

@@ -112,10 +112,12 @@ module _ (l : ℕ) (image heads next : List ℕ) (n : ℕ) (ready : Ready image 
       next_is : top + 1 ≡ next_version f n
       next_is = omega (arith, a.top_is)
 
-      built : with_counts (build (place_in places) (unbuilt (replicate (length heads) 0) (replicate (length next) 0)) order) live-count (top + 1) (last_of order)
+      built : with_counts (build (place_in places) (unbuilt (replicate (length heads) 0) (replicate (length next) 0)) order) live-count (top + 1)
+          (last_of order)
           ≡ recovered_index f n (length heads)
       built =
-          ap (λ (k : ℕ). with_counts (build (place_in places) (unbuilt (replicate (length heads) 0) (replicate k 0)) order) live-count (top + 1) (last_of order))
+          ap (λ (k : ℕ). with_counts (build (place_in places) (unbuilt (replicate (length heads) 0) (replicate k 0)) order) live-count (top + 1)
+          (last_of order))
           ready.sized.next_size
           ∙ arranged_index f n (length heads) order (place_in places) ready.sized.some_head a.order_is
           (arranged_place f n (length heads) order places live-count top a) live-count (top + 1) a.live_is next_is

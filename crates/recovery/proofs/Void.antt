@@ -259,7 +259,8 @@ module _ (f : Table) (num : SizeFields) (n b limit : ℕ) (ranks lows highs plac
 
 pub broken_with_void : (f : Table) (num : SizeFields) (n : ℕ) → broken_count (settled f num n) n ≡ broken_count f n + count (is_void f num n) n
 unfolding broken_count is_broken
-broken_with_void f num n = count_both (λ s. is_broken (f s)) (is_void f num n) (λ s. is_broken (settled f num n s)) n (λ t i. go t (is_void f num n t) refl) apart
+broken_with_void f num n =
+    count_both (λ s. is_broken (f s)) (is_void f num n) (λ s. is_broken (settled f num n s)) n (λ t i. go t (is_void f num n t) refl) apart
   where
     go : (t : ℕ) → (x : Bool) → is_void f num n t ≡ x → is_broken (settled f num n t) ≡ cond (is_broken (f t)) true (is_void f num n t)
     go t true e =

@@ -19,7 +19,8 @@ eight-bytes n (suc k) = omega (arith, zeros 7 k)
 
 one-head : (n : ℕ) → index_fault n 1 (length {A = ℕ} (replicate (suc n) 9)) ≡ 0
 unfolding index_fault refuse_if
-one-head n = ap (λ (b : Bool). refuse_if (not b) 4 0) (eq-eqb (length {A = ℕ} (replicate (suc n) 9)) (n + 1) (omega (arith, length-replicate {A = ℕ} (suc n) 9)))
+one-head n =
+    ap (λ (b : Bool). refuse_if (not b) 4 0) (eq-eqb (length {A = ℕ} (replicate (suc n) 9)) (n + 1) (omega (arith, length-replicate {A = ℕ} (suc n) 9)))
 
 pub fitting : Fitting
 fitting = record { index = one-head; typed = λ mode key n. write_typed {key = key % 256} (omega arith) (eight-bytes n) }

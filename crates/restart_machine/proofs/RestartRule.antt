@@ -243,7 +243,8 @@ module _ {Lent Held Request M : Type 0} (promise : Promise Lent Held Request M) 
         is_in_flight
         (working_store Ready InUse held (λ b. cond b (promise.after taken (plain_of promise first es)) (plain_of promise first es)) mem s rest _ _ w)
     good_step mem first rs es (is_in_flight {rest = []} {lines = k ∷ lines} {held = held} {taken = taken} w) =
-        is_in_flight (working_flush Ready InUse held (λ b. cond b (promise.after taken (plain_of promise first es)) (plain_of promise first es)) mem k lines _ w)
+        is_in_flight (working_flush Ready InUse held (λ b. cond b (promise.after taken (plain_of promise first es)) (plain_of promise first es)) mem k lines _
+        w)
     good_step mem first rs es (is_in_flight {rest = []} {lines = []} {fence = true} {held = held} {taken = taken} w) =
         is_in_flight (working_fence Ready InUse held (λ b. cond b (promise.after taken (plain_of promise first es)) (plain_of promise first es)) mem w)
     good_step mem first rs es (is_in_flight {rest = []} {lines = []} {fence = false} {held = held} {taken = taken} w) =

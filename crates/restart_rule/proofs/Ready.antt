@@ -7,7 +7,8 @@ use native.Mathlib.Omega.{arith}
 use lib.ListN.{length, get_or}
 use Rattle.prelude.specs.Answer.{refuses}
 use Rattle.prelude.specs.Members.{none_left, one_more, All}
-use Rattle.interface.specs.Set.{played, standing, all_stand, recover_fault, World, PlainMap, Call, Typed, slots_in, slots_of, slots_map, index_fault, recover_result}
+use Rattle.interface.specs.Set.{played, standing, all_stand, recover_fault, World, PlainMap, Call, Typed, slots_in, slots_of, slots_map, index_fault}
+use Rattle.interface.specs.Set.{recover_result}
 use Rattle.interface.specs.Set.{stores_in, Restart, Round, restarted, after_round, after_rounds, invalidated_world, world_after, Accepted}
 use Rattle.interface.specs.Event.{done, struck, Cut, Effects, step_by, image_cut, is_whole, plain_event, RoundFits, RestartFits, done_fits, struck_fits, Fits}
 use Rattle.interface.specs.Recovers.{Recovers, RecoversAlways}

@@ -11,7 +11,8 @@ use Rattle.prelude.specs.Answer.{Answer, gives, absent, refused}
 use Rattle.prelude.proofs.Fills.{zeros}
 use Rattle.interface.proofs.SetLaws.{layout_1, call_laws}
 use Rattle.prelude.specs.Members.{none_left}
-use Rattle.interface.specs.Set.{index_fault, RightSize, slots_of, State, Store, Played, played, standing, half_counts, World, Mode, Insert, Replace, Call, write}
+use Rattle.interface.specs.Set.{index_fault, RightSize, slots_of, State, Store, Played, played, standing, half_counts, World, Mode, Insert, Replace, Call}
+use Rattle.interface.specs.Set.{write}
 use Rattle.interface.specs.Set.{remove, get, CallResult, write_result, locate_result, is_held, call_result, playing, finished, invalidated_world, restarted}
 use Rattle.interface.specs.Set.{after_rounds, slots_in, PlainMap, Typed, write_typed, remove_typed, reads_only, Unchanged, Index, out_of, index_of}
 use Rattle.interface.specs.Event.{Cut, done, struck, effects_of, step, Fits, done_fits, step_by, image_cut}

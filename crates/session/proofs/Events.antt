@@ -5,7 +5,8 @@ use Prim.Native.Nat.{ℕ}
 use lib.ListN.{length}
 use Rattle.prelude.specs.Members.{none_left}
 use Rattle.interface.proofs.SetLaws.{layout_1, call_laws}
-use Rattle.interface.specs.Set.{World, Call, PlainMap, Store, Typed, call_result, world_after, recovered_world, invalidated_world, restarted, index_fault, slots_in}
+use Rattle.interface.specs.Set.{World, Call, PlainMap, Store, Typed, call_result, world_after, recovered_world, invalidated_world, restarted, index_fault}
+use Rattle.interface.specs.Set.{slots_in}
 use Rattle.interface.specs.Event.{done, step, Fits, done_fits, struck_fits, step_by}
 use Rattle.interface.specs.Laws.{SetLaws}
 use Rattle.session.specs.declared.Waiting.{Waiting}

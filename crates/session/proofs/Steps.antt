@@ -11,7 +11,8 @@ use Rattle.prelude.proofs.Refusals.{refuse_if_zero, or_else_zero, taken_leaves}
 use Rattle.prelude.specs.Answer.{Answer, gives, absent, refused}
 use Rattle.interface.specs.Laws.{write_writes, remove_writes}
 use Rattle.interface.proofs.SetLaws.{layout_1, call_laws}
-use Rattle.interface.specs.Set.{Store, Invalidations, stores_in, Mode, World, write, remove, call_result, stores_after, buffers_after, write_result, remove_result}
+use Rattle.interface.specs.Set.{Store, Invalidations, stores_in, Mode, World, write, remove, call_result, stores_after, buffers_after, write_result}
+use Rattle.interface.specs.Set.{remove_result}
 use Rattle.interface.specs.Set.{zipped, word_numbers, values, Played, play_end, play_result, play_list_result, playing, CallResult, index_of}
 use Rattle.text.specs.Output.{Printed}
 use Rattle.session.specs.Step.{leaves, played_all, slots_for, size_fault, line_fault, changed_as, change_step, line_step, followed_by, front_step, step_result}

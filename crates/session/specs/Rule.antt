@@ -3,7 +3,8 @@
 use Rattle.std.specs.Prelude.{◌≡◌, List, [], ◌∷◌, ℕ, ◌+◌, ◌*◌, ◌^◌, ◌≤◌, ◌<◌, length, take}
 use Rattle.std.proofs.Math.Option.{Option, some, none}
 use Rattle.prelude.specs.Refusal.{unless_refused}
-use Rattle.interface.specs.Set.{formatted, World, Call, call_result, invalidated_world, PlainMap, plain_out, expected_refusal, expected_answer, CallCorrect, Reads}
+use Rattle.interface.specs.Set.{formatted, World, Call, call_result, invalidated_world, PlainMap, plain_out, expected_refusal, expected_answer, CallCorrect}
+use Rattle.interface.specs.Set.{Reads}
 use Rattle.interface.specs.Set.{call_result_by_rule}
 use Rattle.interface.specs.Event.{step, map_after_event}
 use Rattle.text.specs.Output.{Printed, ok, cut, no}

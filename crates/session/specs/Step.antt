@@ -4,7 +4,8 @@ use Rattle.words.specs.Word.{word, set_word}
 use Rattle.prelude.specs.Refusal.{refuse_if, or_else, unless_refused}
 use Rattle.prelude.specs.Answer.{Answer, gives, absent, refused}
 use Rattle.interface.specs.Set.{Store, word_numbers, values, State, no_state, stores_in, recover_result, FormatResult, format_result, Mode, Insert, Replace}
-use Rattle.interface.specs.Set.{write_result, remove_result, get_result, locate_result, playing, play_list_result, Recovery, CallResult, ReadOnlyResult, index_of}
+use Rattle.interface.specs.Set.{write_result, remove_result, get_result, locate_result, playing, play_list_result, Recovery, CallResult, ReadOnlyResult}
+use Rattle.interface.specs.Set.{index_of}
 use Rattle.text.specs.Output.{Printed, ok, found, cut, not_held, no}
 use Rattle.text.specs.declared.Line.{Line}
 use Rattle.text.specs.declared.Line.TheVariants.{New, Write, Remove, Get, Cut, Bad}

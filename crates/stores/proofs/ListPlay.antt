@@ -54,7 +54,8 @@ refuse_if_either true false = refl
 refuse_if_either false true = refl
 refuse_if_either false false = refl
 
-pub fault_next : (len : ℕ) (list : List Store) (i : ℕ) → refuse_if (ltb len (8 * (get_or list i none).word + 8)) 15 (fault_to len list i) ≡ fault_to len list (i + 1)
+pub fault_next : (len : ℕ) (list : List Store) (i : ℕ) → refuse_if (ltb len (8 * (get_or list i none).word + 8)) 15 (fault_to len list i)
+    ≡ fault_to len list (i + 1)
 fault_next len list i =
     ap (λ (w : ℕ). refuse_if (ltb len (8 * w + 8)) 15 (fault_to len list i))
     (sym (number_at list i) ∙ ap (λ (k : ℕ). get_or (word_numbers list) k 0) (sym (zero-add i)))

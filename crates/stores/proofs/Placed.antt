@@ -135,7 +135,8 @@ module _ (l a b key version : ℕ) where
       ∙ pick_false (eqb (p - 8) 7) _ _ (ne_eqb (p - 8) 7 (λ e. omega (arith, body.before_stamp_B))))
 
   words_by_place : (kind number : ℕ) (value : List ℕ)
-      → record_words l a b key kind number value version ≡ tabulate (λ p. word_at (kind_word kind (length value) number) (placed_word l value (limit l / 8) p) p) 0
+      → record_words l a b key kind number value version ≡ tabulate
+      (λ p. word_at (kind_word kind (length value) number) (placed_word l value (limit l / 8) p) p) 0
       16
   unfolding record_words tabulate marked body_a body_b
   words_by_place kind number value = refl

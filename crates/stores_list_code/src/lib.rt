@@ -1,5 +1,4 @@
-// A lent list of stores: the borrow checker covers no reference to a slice of structs, so the proof of each function
-// that takes one walks its MIR by hand.
+// A lent list of stores: it is filled from two lists of numbers, and played.
 
 #![tactic(auto)]
 

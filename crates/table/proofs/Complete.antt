@@ -11,7 +11,8 @@ use Rattle.prelude.specs.Range.{topmost}
 use Rattle.prelude.proofs.Choice.{pick_false, both, both_left, both_right, pick_true, is_false, true-false}
 use Rattle.prelude.proofs.Count.{count_same}
 use Rattle.prelude.proofs.Most.{greatest_above, greatest_least, first_is, First, nowhere, there, greatest_same}
-use Rattle.table.specs.Complete.{size_field_for, basket_size, has_version, sharers, SizeFields, complete, highest_complete, version_if_complete, is_void, settled}
+use Rattle.table.specs.Complete.{size_field_for, basket_size, has_version, sharers, SizeFields, complete, highest_complete, version_if_complete, is_void}
+use Rattle.table.specs.Complete.{settled}
 use Rattle.table.specs.Table.{is_record, next_version}
 
 -- a number says as many as the basket that it is for

@@ -51,11 +51,13 @@ module _ (l : ℕ) (m m' : ℕ → ℕ) (number version : ℕ) (es : List Basket
   counted = ap size_field_for (slots_length es) ∙ sym is_number
 
   after_slot : (t : ℕ) → In t (basket_slots es)
-      → SlotAfter (content l m t) (record_at version es t) (content l m' t) (size_field_in l m t) (size_field_for (length (basket_slots es))) (size_field_in l m' t)
+      → SlotAfter (content l m t) (record_at version es t) (content l m' t) (size_field_in l m t) (size_field_for (length (basket_slots es)))
+      (size_field_in l m' t)
   after_slot t i = go (was t i)
     where
       go : EntryAt Was version es t
-          → SlotAfter (content l m t) (record_at version es t) (content l m' t) (size_field_in l m t) (size_field_for (length (basket_slots es))) (size_field_in l m' t)
+          → SlotAfter (content l m t) (record_at version es t) (content l m' t) (size_field_in l m t) (size_field_for (length (basket_slots es)))
+          (size_field_in l m' t)
       go r =
           subst
           (λ (x : ℕ). SlotAfter (content l m x) (record_at version es t) (content l m' x) (size_field_in l m x) (size_field_for (length (basket_slots es)))

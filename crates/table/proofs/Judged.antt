@@ -41,7 +41,8 @@ module _ (f : Table) (num : SizeFields) (n : ℕ) where
       omega (
         arith,
         greatest_above (low v) n s i,
-        pick_true (is_record (f s) && ltb (highest_whole_in (f s)) v) (highest_whole_in (f s)) 0 (both (is_record (f s)) _ c (lt-ltb (highest_whole_in (f s)) v l)),
+        pick_true (is_record (f s) && ltb (highest_whole_in (f s)) v) (highest_whole_in (f s)) 0
+            (both (is_record (f s)) _ c (lt-ltb (highest_whole_in (f s)) v l)),
       )
 
   down_below : (v : ℕ) → 0 < v → next_down f n v < v

@@ -121,7 +121,8 @@ module _ (f : Table) (n : ℕ) (new : Table) where
             ∙ ap (λ (y : Bool). cond y false (live f n t)) (pick_false (ltb 0 (rank_for_key (key_in (new x)) (f t))) true (overwritten f new l t) q)
             ∙ sym (live_after_out l t e)
 
-    live_after_more : count (live_after f n new (x ∷ l)) n + one_if (is_held (map_of f n (key_in (new x)))) ≡ one_if (is_put (new x)) + count (live_after f n new l) n
+    live_after_more : count (live_after f n new (x ∷ l)) n + one_if (is_held (map_of f n (key_in (new x))))
+        ≡ one_if (is_put (new x)) + count (live_after f n new l) n
     unfolding is_held
     live_after_more = go (held_or f n (key_in (new x)))
       where
@@ -177,7 +178,8 @@ module _ (f : Table) (n : ℕ) (new : Table) where
                 zero_by s a = is_zero (ltb 0 (rank_for_key (key_in (new s)) (f d))) refl
                   where
                     is_zero : (y : Bool) → ltb 0 (rank_for_key (key_in (new s)) (f d)) ≡ y → rank_for_key (key_in (new s)) (f d) ≡ 0
-                    is_zero true q = absurd (apart s a (one-key (key_in (new s)) (key_in (new x)) (f d) (ltb-true 0 (rank_for_key (key_in (new s)) (f d)) q) has))
+                    is_zero true q =
+                        absurd (apart s a (one-key (key_in (new s)) (key_in (new x)) (f d) (ltb-true 0 (rank_for_key (key_in (new s)) (f d)) q) has))
                     is_zero false q = omega (arith, ltb-false 0 (rank_for_key (key_in (new s)) (f d)) q)
 
             mid-x : mid x ≡ false
@@ -212,7 +214,8 @@ module _ (f : Table) (n : ℕ) (new : Table) where
       apart s j e = o.0 (rw (sym (k s x (inr j) (inl refl) e)) j)
 
 -- where only held keys are removed, puts and removes are held keys and inserts
-pub puts_held : (l : List ℕ) (new : Table) (m : ℕ → Option (List ℕ)) → HeldRemoved l new m → puts_in l new + removes_in l new ≡ held_in l new m + inserts_in l new m
+pub puts_held : (l : List ℕ) (new : Table) (m : ℕ → Option (List ℕ)) → HeldRemoved l new m
+    → puts_in l new + removes_in l new ≡ held_in l new m + inserts_in l new m
 unfolding puts_in removes_in held_in inserts_in
 puts_held [] new m h = refl
 puts_held (x ∷ l) new m h = go (is_put (new x)) (is_held (m (key_in (new x)))) (h x (inl refl)) (puts_held l new m (λ t i. h t (inr i)))

@@ -34,7 +34,8 @@ unfolding decider
 decider_eq f n k s h = first_eq (λ t. rank_for_key k (f t)) n s h
 
 -- the slot that says strictly more of k than each other decides k
-pub decider_only : (f : Table) (n k s : ℕ) → Slot n s → 0 < rank_for_key k (f s) → ((t : ℕ) → Slot n t → (t ≡ s → ⊥) → rank_for_key k (f t) < rank_for_key k (f s))
+pub decider_only : (f : Table) (n k s : ℕ) → Slot n s → 0 < rank_for_key k (f s)
+    → ((t : ℕ) → Slot n t → (t ≡ s → ⊥) → rank_for_key k (f t) < rank_for_key k (f s))
     → decider f n k ≡ s
 decider_only f n k s i p h = decider_eq f n k s (there i p (λ t j. most t j (eqb t s) refl) (λ t j l. h t j (λ e. omega arith)))
   where

@@ -67,7 +67,8 @@ settled_count l m n none =
 pub right_cut : (l : ℕ) (m m' : ℕ → ℕ) (n number version : ℕ) (es : List BasketRecord) (counts : ℕ → ℕ) → Once (basket_slots es)
     → All (LawfulRecord l m number version) es → number ≡ size_field_for (length es) → AllWritten l m m' number version es counts → RightSlots l m n
     → Basket (content l m) (size_field_in l m) n version (basket_slots es) (record_at version es) → BrokenTaken (content l m) n (basket_slots es)
-    → live_count (content l m) n + puts_in (basket_slots es) (record_at version es) < n + held_in (basket_slots es) (record_at version es) (map_of (content l m) n)
+    → live_count (content l m) n + puts_in (basket_slots es) (record_at version es) < n + held_in (basket_slots es) (record_at version es)
+    (map_of (content l m) n)
     → RightSlots l m' n
 right_cut l m m' n number version es counts once fine is_number w r b first room =
     confined_right l m m' n _ w.rest r

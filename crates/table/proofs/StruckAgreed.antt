@@ -66,7 +66,8 @@ module _ {f f' : Table} {num num' : SizeFields} {n w : ℕ} {taken : List ℕ} {
             ap basket_size (g p).1,
           )
 
-      keys : (s t : ℕ) → Slot n s → Slot n t → (s ≡ t → ⊥) → is_record (f' s) ≡ true → is_record (f' t) ≡ true → highest_whole_in (f' s) ≡ highest_whole_in (f' t)
+      keys : (s t : ℕ) → Slot n s → Slot n t → (s ≡ t → ⊥) → is_record (f' s) ≡ true → is_record (f' t) ≡ true
+          → highest_whole_in (f' s) ≡ highest_whole_in (f' t)
           → key_in (f' s) ≡ key_in (f' t) → View s → View t → ⊥
       keys s t i j ne p q e k (is_new a c d l) (is_new x y z m) = ne (b.keys s t a x (sym (ap key_in c) ∙ k ∙ ap key_in y))
       keys s t i j ne p q e k (is_new a c d l) (is_old m h) = omega (arith, version_top f' w s l, ap highest_whole_in (h q).0, b.above t j)

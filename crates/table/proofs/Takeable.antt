@@ -138,7 +138,8 @@ module _ (f : Table) (n : ℕ) where
       hides = is_remove (f s) && any_of (older f s) 1 n
 
       may : is_record (f s) ≡ true → ltb (highest_whole_in (f s)) (highest_valid f n) ≡ true → hides ≡ false → Barred s
-      may r l h = absurd (true-false (pick_true (is_record (f s)) _ true r ∙ both (ltb (highest_whole_in (f s)) (highest_valid f n)) (not hides) l (ap not h)) e)
+      may r l h =
+          absurd (true-false (pick_true (is_record (f s)) _ true r ∙ both (ltb (highest_whole_in (f s)) (highest_valid f n)) (not hides) l (ap not h)) e)
 
       go : (x : Bool) → is_record (f s) ≡ x → (y : Bool) → ltb (highest_whole_in (f s)) (highest_valid f n) ≡ y → (z : Bool) → is_remove (f s) ≡ z
           → Passing (older f s) n → Barred s

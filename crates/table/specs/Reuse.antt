@@ -21,4 +21,5 @@ OlderFirst f (x ∷ l) = ((t : ℕ) → In t l → is_remove (f x) ≡ true → 
 abbrev pub HighestLast : Table → (n : ℕ) → List ℕ → Type 0
 HighestLast f n [] = Unit
 HighestLast f n (x ∷ l) =
-    is_record (f x) ≡ true → highest_whole_in (f x) ≡ highest_valid f n → (t : ℕ) → In t l → (is_record (f t) ≡ true) × (highest_whole_in (f t) ≡ highest_valid f n)
+    is_record (f x) ≡ true → highest_whole_in (f x) ≡ highest_valid f n → (t : ℕ) → In t l
+    → (is_record (f t) ≡ true) × (highest_whole_in (f t) ≡ highest_valid f n)

@@ -28,7 +28,8 @@ bytes_other s a (suc n) v k h =
     ∙ get_or-set_other s a k (v % 256) 0 (λ e. h (omega arith) (omega arith))
 
 -- one byte, and then the others
-pub byte_next : (s : List ℕ) (at k n v : ℕ) → k < n → set_bytes s (at + k) (n - k) v ≡ set_bytes (set s (at + k) (v % 256)) (at + (k + 1)) (n - (k + 1)) (v / 256)
+pub byte_next : (s : List ℕ) (at k n v : ℕ) → k < n → set_bytes s (at + k) (n - k) v
+    ≡ set_bytes (set s (at + k) (v % 256)) (at + (k + 1)) (n - (k + 1)) (v / 256)
 unfolding set_bytes
 byte_next s at k n v h =
     let more : n - k ≡ suc (n - (k + 1)) = omega arith in

@@ -1,6 +1,7 @@
 -- Answers of `recovery_judge_code::comparing::compare`.
 use borrow.Author.Rules.{rules}
 use Rattle.recovery.proofs.Compares.{compare_near, compare_runs, compare_keys, compared_none, compared_runs, compared_keys}
+use Rattle.std.proofs.lemmas.Bool.{not_from_true, not_from_false}
 use Rattle.recovery_judge_code.proofs.comparing.compare.Goals as goal
 
 pub any_shared-requires : goal.any_shared-requires
@@ -10,7 +11,7 @@ any_shared-requires c =
 pub returns-then-not-any_shared : goal.returns-then-not-any_shared
 returns-then-not-any_shared c =
     record { result = (compared_none _ _ _ _ _ _ c.args.order.now _ _ _ c.requires c.order_by_rank.ensures.result _
-    c.order_by_key.ensures.result _ _ c.any_shared.ensures c.if-not-any_shared.true) }
+    c.order_by_key.ensures.result _ _ c.any_shared.ensures (not_from_false _ c.if-not-any_shared.true)) }
 
 pub any_run_fault-requires : goal.any_run_fault-requires
 any_run_fault-requires c =

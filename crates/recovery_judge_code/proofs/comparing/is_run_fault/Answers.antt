@@ -3,6 +3,7 @@ use native.Mathlib.Omega.{arith}
 use borrow.Author.Rules.{rules}
 use Rattle.recovery.proofs.Orders.{within_at}
 use Rattle.recovery.proofs.Compares.{run_apart, run_differs, run_test}
+use Rattle.std.proofs.lemmas.Bool.{not_from_true, not_from_false}
 use Rattle.recovery_judge_code.proofs.comparing.is_run_fault.Goals as goal
 
 -- `recovery_judge_code::comparing::is_run_fault` meets its contract. Assumes nothing.
@@ -16,15 +17,15 @@ is_shared-requires c =
 
 pub returns-then-not-is_shared : goal.returns-then-not-is_shared
 returns-then-not-is_shared c =
-    run_apart _ _ _ _ _ c.is_shared.ensures c.if-not-is_shared.true
+    run_apart _ _ _ _ _ c.is_shared.ensures (not_from_false _ c.if-not-is_shared.true)
 
 pub returns-then-number_at : goal.returns-then-number_at
 returns-then-number_at c =
-    run_differs _ _ _ _ _ c.is_shared.ensures c.if-not-is_shared.false _ _ c.number_at.ensures.result.0
+    run_differs _ _ _ _ _ c.is_shared.ensures (not_from_true _ c.if-not-is_shared.false) _ _ c.number_at.ensures.result.0
     c.number_at-2.ensures.result.0 c.if-number_at.true
 
 pub returns : goal.returns
 returns c =
-    run_test _ _ _ _ _ c.is_shared.ensures c.if-not-is_shared.false _ _ c.number_at.ensures.result.0
+    run_test _ _ _ _ _ c.is_shared.ensures (not_from_true _ c.if-not-is_shared.false) _ _ c.number_at.ensures.result.0
     c.number_at-2.ensures.result.0 (omega (arith, c.if-number_at.false)) _
     c.is_too_many.ensures

@@ -6,6 +6,7 @@ use native.Mathlib.Omega.{arith}
 use borrow.Author.Rules.{rules}
 use Rattle.recovery.proofs.Settles.{Clearing, clearing_start, clearing_void, clearing_kept, clearing_end}
 use Rattle.recovery_judge_code.proofs.settling.clear_above.Goals as goal
+use Rattle.recovery_judge_code.proofs.settling.clear_above.Goals.{then-limit-ranks, else-limit-ranks}
 
 pub loop-s-init : goal.loop-s-init
 loop-s-init c =
@@ -29,12 +30,14 @@ loop-s-smaller c =
 
 pub loop-s-preserved : goal.loop-s-preserved
 loop-s-preserved c =
-    ⊎_elim
-    (λ w. clearing_void _ _ _ _ _ _ _ c.loop-s.invariant c.loop-s-test.true c.requires.0 c.requires.1 _ refl _ _ w.0.taken w.1
-    w.2)
-    (λ w. clearing_kept _ _ _ _ _ _ _ c.loop-s.invariant c.loop-s-test.true c.requires.0 c.requires.1 _ refl _ _ w.0.left w.1
-    w.2)
-    c.if-limit-ranks.branch
+    elim c.if-limit-ranks.branch [
+      then-limit-ranks w ↦
+          clearing_void _ _ _ _ _ _ _ c.loop-s.invariant c.loop-s-test.true c.requires.0 c.requires.1 _ refl _ _ w.if-limit-ranks.true w.ranks-is
+          w.places-is
+    | else-limit-ranks w ↦
+          clearing_kept _ _ _ _ _ _ _ c.loop-s.invariant c.loop-s-test.true c.requires.0 c.requires.1 _ refl _ _ w.if-limit-ranks.false w.ranks-is
+          w.places-is
+    ]
 
 pub shape_of-ranks : goal.shape_of-ranks
 shape_of-ranks c =

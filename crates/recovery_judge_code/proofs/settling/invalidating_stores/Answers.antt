@@ -11,6 +11,7 @@ use Rattle.words.specs.Word.{word}
 use Rattle.recovery.specs.inner.Judge.{with_store}
 use Rattle.recovery.proofs.InvalidatingStores.{invalidating-store, Invalidation, invalidating_start, invalidating_more, invalidating_same, invalidating_end}
 use Rattle.recovery_judge_code.proofs.settling.invalidating_stores.Goals as goal
+use Rattle.recovery_judge_code.proofs.settling.invalidating_stores.Goals.{then-limit-ranks, else-limit-ranks}
 
 pub loop-s-init : goal.loop-s-init
 loop-s-init c =
@@ -42,11 +43,13 @@ loop-s-smaller c =
 
 pub loop-s-preserved : goal.loop-s-preserved
 loop-s-preserved c =
-    ⊎_elim
-    (λ w. invalidating_more _ _ _ _ _ c.loop-s.invariant c.loop-s-test.true _ (lt-ltb _ _ w.0.taken)
-    (w.4 ∙ w.3.ensures ∙ ap (with_store _) (invalidating-store _ _ _ _ w.2.ensures w.1.ensures)))
-    (λ w. invalidating_same _ _ _ _ _ c.loop-s.invariant c.loop-s-test.true _ (le-ltb _ _ w.0.left) w.1)
-    c.if-limit-ranks.branch
+    elim c.if-limit-ranks.branch [
+      then-limit-ranks w ↦
+          invalidating_more _ _ _ _ _ c.loop-s.invariant c.loop-s-test.true _ (lt-ltb _ _ w.if-limit-ranks.true)
+          (w.opened-is ∙ w.with_store-opened.ensures ∙ ap (with_store _) (invalidating-store _ _ _ _ w.first_word-mark.ensures.result w.read_word.ensures.result))
+    | else-limit-ranks w ↦
+          invalidating_same _ _ _ _ _ c.loop-s.invariant c.loop-s-test.true _ (le-ltb _ _ w.if-limit-ranks.false) w.opened-is
+    ]
 
 pub returns : goal.returns
 returns c =

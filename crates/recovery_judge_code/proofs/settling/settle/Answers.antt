@@ -28,11 +28,11 @@ order_by_key-requires c =
 
 pub shape_of-ranks : goal.shape_of-ranks
 shape_of-ranks c =
-    c.Clear_above.kept.0
+    c.clear_above.auto.ranks
 
 pub shape_of-places : goal.shape_of-places
 shape_of-places c =
-    c.Clear_above.kept.1.0
+    c.clear_above.auto.places
 
 pub shape_of-order : goal.shape_of-order
 shape_of-order c =
@@ -48,5 +48,5 @@ shape_of-scratch c =
 
 pub returns : goal.returns
 returns c =
-    record { result = (settled_again _ _ _ _ _ _ _ _ _ c.requires _ _ _ _ _ _ _ c.invalidating_stores-opened.ensures c.Clear_above.ensures
+    record { result = (settled_again _ _ _ _ _ _ _ _ _ c.requires _ _ _ _ _ _ _ c.invalidating_stores-opened.ensures c.clear_above.ensures
     c.order_by_rank.ensures.result c.order_by_key.ensures.result) }

@@ -1,2 +1,0 @@
-pub mod Struct
-pub mod Puts
