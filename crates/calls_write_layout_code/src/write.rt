@@ -127,7 +127,7 @@ pub fn replace_in(
                 },
                 state: after,
                 compared,
-                moved,
+                moved, // by its record_stores
             }
         }
     }
