@@ -26,7 +26,7 @@ pub fn new(
         (new_result 1 image.now (index_of heads.old next.old state) key quantity) }
 {
     new_in_layout(
-        image, false, heads, next, state, key, 0, quantity, at, words, false,
+        image, false, heads, next, state, key, 0, quantity, at, words, false, // a new order
     )
 }
 
@@ -64,7 +64,7 @@ pub fn fill(
         (fill_result 1 image.now (index_of heads.old next.old state) key quantity) }
 {
     fill_in_layout(
-        image, false, heads, next, state, key, 0, quantity, at, words, false,
+        image, false, heads, next, state, key, 0, quantity, at, words, false, // a fill
     )
 }
 
@@ -102,7 +102,7 @@ pub fn new2(
         (new_result 2 image.now (index_of heads.old next.old state) (key_with low high) quantity) }
 {
     new_in_layout(
-        image, true, heads, next, state, low, high, quantity, at, words, false,
+        image, true, heads, next, state, low, high, quantity, at, words, false, // a new order
     )
 }
 
@@ -141,7 +141,7 @@ pub fn fill2(
         (fill_result 2 image.now (index_of heads.old next.old state) (key_with low high) quantity) }
 {
     fill_in_layout(
-        image, true, heads, next, state, low, high, quantity, at, words, false,
+        image, true, heads, next, state, low, high, quantity, at, words, false, // a fill
     )
 }
 

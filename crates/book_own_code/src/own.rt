@@ -27,7 +27,7 @@ pub fn own_new(
         (new_result_by true 1 image.now (index_of heads.old next.old state) key quantity) }
 {
     new_in_layout(
-        image, false, heads, next, state, key, 0, quantity, at, words, true,
+        image, false, heads, next, state, key, 0, quantity, at, words, true, // a new order
     )
 }
 
@@ -64,7 +64,7 @@ pub fn own_fill(
         (fill_result_by true 1 image.now (index_of heads.old next.old state) key quantity) }
 {
     fill_in_layout(
-        image, false, heads, next, state, key, 0, quantity, at, words, true,
+        image, false, heads, next, state, key, 0, quantity, at, words, true, // a fill
     )
 }
 
@@ -102,7 +102,7 @@ pub fn own_new2(
         (new_result_by true 2 image.now (index_of heads.old next.old state) (key_with low high) quantity) }
 {
     new_in_layout(
-        image, true, heads, next, state, low, high, quantity, at, words, true,
+        image, true, heads, next, state, low, high, quantity, at, words, true, // a new order
     )
 }
 
@@ -141,7 +141,7 @@ pub fn own_fill2(
         (fill_result_by true 2 image.now (index_of heads.old next.old state) (key_with low high) quantity) }
 {
     fill_in_layout(
-        image, true, heads, next, state, low, high, quantity, at, words, true,
+        image, true, heads, next, state, low, high, quantity, at, words, true, // a fill
     )
 }
 

@@ -127,9 +127,40 @@ pub fn replace_in(
                 },
                 state: after,
                 compared,
-                moved,
+                moved, // by its record_stores
             }
         }
+    }
+}
+
+// Insert or replace, in layout l, by the mode.
+pub fn write_in(
+    image: &[u8],
+    l: usize,
+    heads: &mut [u32],
+    next: &mut [u32],
+    state: State,
+    mode: Mode,
+    low: u64,
+    high: u64,
+    value: &[u8],
+    at: &mut [u32; 16],
+    words: &mut [u64; 16],
+    own: bool,
+) -> Change
+    requires { Layout l }
+    ensures result { change_end result at.new words.new heads.new next.new
+        ≡ buffers_after (zipped at.old words.old)
+        (write_result_by own l image.now (index_of heads.old next.old state) mode (key_with low high) value.now) }
+    ensures moved { result.moved ≡ write_moved result.outcome (length value.now) }
+{
+    match mode {
+        Mode::Insert => insert_in(
+            image, l, heads, next, state, low, high, value, at, words, own,
+        ),
+        Mode::Replace => replace_in(
+            image, l, heads, next, state, low, high, value, at, words, own,
+        ),
     }
 }
 

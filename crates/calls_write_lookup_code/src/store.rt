@@ -60,7 +60,7 @@ pub fn store_fault(
     if ends != 0 {
         return ends;
     }
-    if state.live < removes {
+    if state.live < removes { // 11: fewer live than are removed
         return 11;
     }
     let room = live_fault(n as u32, state.live, inserts, removes);

@@ -1,9 +1,13 @@
 // Answers as a return code and lent numbers.
 ghost use Rattle.std.specs.Prelude.{◌≡◌, ◌*◌};
 ghost use Rattle.interface.specs.Set.{change_says, get_says, locate_says};
+ghost use Rattle.book.specs.Plain.{refusal_number};
+ghost use Rattle.book.specs.Steps.{book_says};
 ghost use Rattle.exports.specs.State.{state_from};
+ghost use Rattle.exports.specs.Book.{book_answered};
 ghost use Rattle.exports.specs.Call.{answered_with, returned_with};
 
+use book::{BookChange, BookOutcome};
 use exports_code::refusal::refused_with;
 use exports_code::state::keep_state;
 use orderset::{Change, GetAnswer, Got, LocateAnswer, Located, Outcome};
@@ -33,6 +37,39 @@ pub fn write_answer(
             version: number,
         } => {
             *answer = [1, slot as u64, number, change.compared as u64];
+            0
+        }
+    }
+}
+
+// What a book step gives back goes into the lent numbers.
+pub fn write_answer_step(
+    change: BookChange,
+    state: &mut [u32; 4],
+    version: &mut [u64; 1],
+    answer: &mut [u64; 3],
+) -> u32
+    ensures result { (result ≡ refusal_number (book_says change.outcome)) ×
+        (answer.new ≡ book_answered (book_says change.outcome) answer.old) ×
+        (state_from state.new version.new ≡ change.state) }
+{
+    let after = change.state;
+    keep_state(after, state, version);
+    let outcome = change.outcome;
+    match outcome {
+        BookOutcome::Refused(number) => number,
+        BookOutcome::Already {
+            slot,
+            version: number,
+        } => {
+            *answer = [2, slot as u64, number];
+            0
+        }
+        BookOutcome::Stored {
+            slot,
+            version: number,
+        } => {
+            *answer = [1, slot as u64, number];
             0
         }
     }

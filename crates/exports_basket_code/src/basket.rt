@@ -52,8 +52,8 @@ fn unknown_kind(kinds: &[u32; 8], count: usize) -> bool
 }
 
 // The number of keys, 0 for a basket that is refused by its count or its kinds.
-fn keys_asked(count: usize, kinds: &[u32; 8]) -> usize
-    ensures { result ≡ keys_asked count kinds.now }
+pub fn keys_asked(count: usize, kinds: &[u32; 8]) -> usize
+    ensures result { result ≡ keys_asked count kinds.now }
 {
     if 8 < count {
         return 0;
@@ -84,13 +84,13 @@ fn given_item(
 }
 
 // All eight.
-fn given_items(
+pub fn given_items(
     kinds: &[u32; 8],
     lows: &[u64; 8],
     highs: &[u64; 8],
     lengths: &[usize; 8],
 ) -> [BasketItem; 8]
-    ensures { result ≡ given_items kinds.now lows.now highs.now lengths.now }
+    ensures result { result ≡ given_items kinds.now lows.now highs.now lengths.now }
 {
     [
         given_item(kinds, lows, highs, lengths, 0),
@@ -129,13 +129,13 @@ fn answer_of(version: u64, slots: [u32; 8]) -> [u64; 9]
 }
 
 // What a basket gives back goes into the lent numbers.
-fn write_answer_basket(
+pub fn write_answer_basket(
     basket: BasketAnswer,
     state: &mut [u32; 4],
     version: &mut [u64; 1],
     answer: &mut [u64; 9],
 ) -> u32
-    ensures { (taken : List ℕ) → (result ≡ refusal_in (basket_says taken basket.outcome)) ×
+    ensures result { (taken : List ℕ) → (result ≡ refusal_in (basket_says taken basket.outcome)) ×
         (answer.new ≡ basket_answered (basket_says taken basket.outcome) basket.slots answer.old) ×
         (state_from state.new version.new ≡ basket.state) }
 {

@@ -1,50 +1,16 @@
 // The steps of the order book with lent numbers: with `wide` in layout 2, with `own` for the owner of the index.
 ghost use Rattle.std.specs.Prelude.{◌≡◌};
 ghost use Rattle.interface.specs.Set.{layout_number, key_with, zipped, index_of};
-ghost use Rattle.book.specs.Plain.{refusal_number};
-ghost use Rattle.book.specs.Steps.{book_says, new_result_by, acknowledge_result_by, fill_result_by, withdraw_result_by};
+ghost use Rattle.book.specs.Steps.{new_result_by, acknowledge_result_by, fill_result_by, withdraw_result_by};
 ghost use Rattle.exports.specs.State.{state_from};
 ghost use Rattle.exports.specs.Call.{change_left};
-ghost use Rattle.exports.specs.Book.{book_answered, book_call};
+ghost use Rattle.exports.specs.Book.{book_call};
 
-use book::{BookChange, BookOutcome};
 use book_change_code::layouts::{
     acknowledge_in_layout, fill_in_layout, new_in_layout, withdraw_in_layout,
 };
-use exports_code::state::{keep_state, state_from};
-
-// What a book step gives back goes into the lent numbers.
-fn write_answer_step(
-    change: BookChange,
-    state: &mut [u32; 4],
-    version: &mut [u64; 1],
-    answer: &mut [u64; 3],
-) -> u32
-    ensures { (result ≡ refusal_number (book_says change.outcome)) ×
-        (answer.new ≡ book_answered (book_says change.outcome) answer.old) ×
-        (state_from state.new version.new ≡ change.state) }
-{
-    let after = change.state;
-    keep_state(after, state, version);
-    let outcome = change.outcome;
-    match outcome {
-        BookOutcome::Refused(number) => number,
-        BookOutcome::Already {
-            slot,
-            version: number,
-        } => {
-            *answer = [2, slot as u64, number];
-            0
-        }
-        BookOutcome::Stored {
-            slot,
-            version: number,
-        } => {
-            *answer = [1, slot as u64, number];
-            0
-        }
-    }
-}
+use exports_answer_code::answer::write_answer_step;
+use exports_code::state::state_from;
 
 // A new order of this quantity; the answer is the slot taken and the version.
 pub fn new_call(

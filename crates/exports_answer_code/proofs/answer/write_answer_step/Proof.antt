@@ -1,11 +1,11 @@
--- `exports_book_code::steps::write_answer_step` meets its contract. Assumes nothing.
+-- `exports_answer_code::answer::write_answer_step` meets its contract. Assumes nothing.
 use mathlib.Core.Path.{refl}
 use borrow.Author.Rules.{rules}
 use Rattle.book.specs.Steps.{book_says}
 use Rattle.book.specs.Plain.{refusal_number}
 use Rattle.exports.specs.Book.{book_answered}
-use Rattle.exports_book_code.proofs.steps.write_answer_step.Statement.{statement}
-use Rattle.exports_book_code.proofs.steps.write_answer_step.Tie as tie
+use Rattle.exports_answer_code.proofs.answer.write_answer_step.Statement.{statement}
+use Rattle.exports_answer_code.proofs.answer.write_answer_step.Tie as tie
 
 returns : tie.Need-returns
 unfolding refusal_number book_answered book_says
