@@ -17,8 +17,8 @@ use Rattle.table.specs.Takeable.{highest_valid, is_remove, older, may_take, may_
 use Rattle.table.proofs.TakeableAfter.{may_after}
 use Rattle.allocation.specs.Allocation.{allocation_by_rule, allocation_chosen}
 use Rattle.allocation.specs.inner.Walk.{take_fault, walk_fault}
-use Rattle.allocation.specs.inner.Takeable.{slot_version, takeable, low_put}
-use Rattle.allocation.proofs.Walks.{walk-fault, still_fine}
+use Rattle.allocation.specs.inner.Takeable.{slot_version, takeable, low_put, OpenFirst}
+use Rattle.allocation.proofs.Walks.{walk-fault, walk_taken, end_good, still_fine}
 use Rattle.allocation.proofs.Contents.{slot_holds, held_version}
 use Rattle.allocation.proofs.Tested.{may_low}
 
@@ -59,6 +59,17 @@ module _ (l : ℕ) (image next : List ℕ) (n first : ℕ) where
       ≡ take_fault (allocation_by_rule l image next n first wanted)
   unfolding allocation_by_rule allocate_from
   walked wanted some = sym (walk-fault (may_take (contents_of l image) n) next n n wanted 0 first [] some)
+
+  -- the first slot may be taken, by a version that is none above the highest
+  pub taken_first : (top : ℕ) → top ≤ greatest (slot_version (word image)) n → 2 ≤ n → OpenFirst l (word image) next n top first
+      → 0 ≡ take_fault (allocation_by_rule l image next n first 1)
+  taken_first top h some o =
+      sym
+      (sym (walked 1 (omega arith))
+      ∙ walk_taken (may_take (contents_of l image) n) next n n 1 first (omega arith) o.low o.high
+      (surely (contents_of l image) n top first (omega (arith, highest_is l (word image) n)) (sym (may_low l (word image) n top false first _ refl o.put)))
+      refl
+      ∙ end_good n (n - 1) _ (omega arith) o.link)
 
   module _ (wanted : ℕ) (some : 0 < wanted) where
     -- a walk among the first slots, by a version that is none above the highest: not refused
