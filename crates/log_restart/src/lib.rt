@@ -2,4 +2,3 @@
 
 // The restart rule for the log: kills and power cuts over a cache.
 
-#![tactic(auto)]

@@ -1,8 +1,6 @@
 // The raw message log: types, definitions and laws. Document 02, A.10.
 #![tactic(auto)]
 
-#![tactic(auto)]
-
 // What append and recovery answer: a number and the count of the stores, or the number of the refusal.
 #[derive(Clone, Copy)]
 pub enum LogOutcome {
