@@ -22,11 +22,13 @@ use Rattle.stores.proofs.AllStand.{stand_lines, lines_stand}
 use Rattle.message_log.specs.Area.{cells_in}
 use Rattle.message_log.specs.Append.{append_stores, append_fault}
 use Rattle.message_log.specs.Recover.{recovery_stores, log_recover_fault}
-use Rattle.message_log.specs.Event.{LogCall, an_append, a_read, a_recovery, log_stores, area_done, area_cut, Messages, expected_log_refusal, is_torn, plain_append, FitsCall}
+use Rattle.message_log.specs.Event.{LogCall, an_append, a_read, a_recovery, log_stores, area_done, area_cut, Messages, expected_log_refusal, is_torn}
+use Rattle.message_log.specs.Event.{plain_append, FitsCall}
 use Rattle.message_log.specs.Event.{append_fits, read_fits, recovery_fits}
 use Rattle.message_log.proofs.Inside.{accepted, append_inside_area, recovery_inside_area}
 use Rattle.message_log.proofs.Claims.{Keeping, cells_fine, call_right, call_after_right}
-use Rattle.message_log.proofs.Events.{done_keeps, done_last, done_closed_after, cut_keeps, cut_recovery_keeps, recovery_done_keeps, restart_closed, restart_last}
+use Rattle.message_log.proofs.Events.{done_keeps, done_last, done_closed_after, cut_keeps, cut_recovery_keeps, recovery_done_keeps, restart_closed}
+use Rattle.message_log.proofs.Events.{restart_last}
 use Rattle.message_log.proofs.LogRule.{Good, closed_by, closed_in, blank_good}
 use Rattle.restart_machine.proofs.defs.Laws.{Inside, Laws}
 use Rattle.restart_machine.proofs.RestartRule.{restart_rule}

@@ -60,7 +60,8 @@ module _ (m : ℕ → ℕ) (c : ℕ) (message : List ℕ) where
     where
       go : (suc k ≤ i → i < suc k + j → on_line (7 * c + 1 + i) (payloads_from m c message (suc k) j) ≡ payload_stores m c message i)
           → (eqb i k ≡ true) ⊎ (eqb i k ≡ false)
-          → on_line (7 * c + 1 + i) (payload_stores m c message k) ++ on_line (7 * c + 1 + i) (payloads_from m c message (suc k) j) ≡ payload_stores m c message i
+          → on_line (7 * c + 1 + i) (payload_stores m c message k) ++ on_line (7 * c + 1 + i) (payloads_from m c message (suc k) j)
+          ≡ payload_stores m c message i
       go ih (inl e) =
           ap₂ (λ (x y : List Store). x ++ y)
           (ap (λ (x : ℕ). on_line (7 * c + 1 + i) (payload_stores m c message x)) (sym (eqb-true i k e)) ∙ one_own i)
@@ -195,7 +196,8 @@ module _ (m : ℕ → ℕ) (m-fits : (i : ℕ) → m i < 2 ^ 64) (c s : ℕ) (me
     line_matches : (i : ℕ) → i < 6 → length (on_line (7 * c + 1 + i) ss) ≤ counts (7 * c + 1 + i)
         → bit_differs (marked_line now c 2) (payload_line now c i) i ≡ false
     line_matches i h e =
-        bit_matches (payload_line m c i) (message_line message i) (λ j l. m-fits (8 * (7 * c + 1 + i) + j % 8)) (λ j l. word_range message (8 * i + j) are-bytes)
+        bit_matches (payload_line m c i) (message_line message i) (λ j l. m-fits (8 * (7 * c + 1 + i) + j % 8))
+        (λ j l. word_range message (8 * i + j) are-bytes)
         (marked_line now c 2) i (stored_pair _ i made_pairs h) (payload_line now c i) (λ j l. line_made i j h l e)
 
     line_differs : (i : ℕ) → i < 6 → counts (7 * c + 1 + i) < length (on_line (7 * c + 1 + i) ss)

@@ -35,7 +35,8 @@ module _ (m : ℕ → ℕ) (c : ℕ) where
   unfolding bit_differs pair_in
   here i rest t g e = e ∙ ap (λ (x : ℕ). pair_differs (x % 1024) (line m (7 * c + 1 + i))) g.left
 
-  pub match_hit : (i rest : ℕ) (t : Bool) → Matching i rest → i < 6 → t ≡ pair_differs (rest % 1024) (line m (7 * c + 1 + i)) → t ≡ true → true ≡ bits_differ m c
+  pub match_hit : (i rest : ℕ) (t : Bool) → Matching i rest → i < 6 → t ≡ pair_differs (rest % 1024) (line m (7 * c + 1 + i)) → t ≡ true
+      → true ≡ bits_differ m c
   unfolding bits_differ
   match_hit i rest t g h e q = any_hit g.search h (here i rest t g e) q
 

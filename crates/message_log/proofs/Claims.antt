@@ -28,7 +28,8 @@ use Rattle.message_log.specs.AppendAfter.{append_after_result}
 use Rattle.message_log.specs.Append.{message_fault, next_message, append_stores, append_fault, append_result}
 use Rattle.message_log.specs.Recover.{recovery_stores, log_recover_fault, log_recover_result, log_recover_list_result}
 use Rattle.message_log.specs.Read.{read_fault, read_part, read_end, read_result, part_result}
-use Rattle.message_log.specs.Event.{LogCall, an_append, a_read, a_recovery, log_stores, area_done, area_cut, Messages, expected_log_refusal, FitsCall, append_fits}
+use Rattle.message_log.specs.Event.{LogCall, an_append, a_read, a_recovery, log_stores, area_done, area_cut, Messages, expected_log_refusal, FitsCall}
+use Rattle.message_log.specs.Event.{append_fits}
 use Rattle.message_log.specs.Event.{read_fits, recovery_fits}
 use Rattle.message_log.specs.Rule.{shown_up_to, shown_messages, last_messages, PartHolds, Shows, count_given, HandsOut}
 use Rattle.message_log.specs.Rule.{LogCallCorrect, StandingPlays}
@@ -260,7 +261,8 @@ module _ (cells : ℕ) (low : 2 ≤ cells) (area : List ℕ) (log : Messages) (k
   -- append_after, lent the last number
   after_agrees : (last : ℕ) → last ≡ length log → (message at value : List ℕ)
       → append_after_result area last message at value ≡ append_result area message at value
-  after_agrees last e message at value = ap (λ (n : ℕ). append_after_result area n message at value) (e ∙ sym top_in) ∙ after_highest.result area message at value
+  after_agrees last e message at value =
+      ap (λ (n : ℕ). append_after_result area n message at value) (e ∙ sym top_in) ∙ after_highest.result area message at value
 
   pub call_after_right : (last : ℕ) → last ≡ length log → (call : LogCall) → FitsCall call → LogCallAfterCorrect area last log call
   unfolding LogCallAfterCorrect

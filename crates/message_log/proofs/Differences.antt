@@ -57,7 +57,8 @@ abbrev pub DifferAt : (a b t : ℕ) → Type 0
 DifferAt a b t = bit_at a t ≡ bit_at b t → ⊥
 
 -- one digit of the count
-count_step : (k a b d : ℕ) → differ (a % 2) (b % 2) ≡ d → count_trailing_zeros (suc k) (bit_xor a b) ≡ under d (count_trailing_zeros k (bit_xor (a / 2) (b / 2)))
+count_step : (k a b d : ℕ) → differ (a % 2) (b % 2) ≡ d → count_trailing_zeros (suc k) (bit_xor a b)
+    ≡ under d (count_trailing_zeros k (bit_xor (a / 2) (b / 2)))
 unfolding count_trailing_zeros
 count_step k a b d e = ap₂ (λ (x y : ℕ). under x (count_trailing_zeros k y)) (low a b ∙ e) (half a b)
 

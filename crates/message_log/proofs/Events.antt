@@ -128,7 +128,8 @@ module _ (cells : ℕ) (low : 2 ≤ cells) (area : List ℕ) (log : Messages) (k
       unfolding log_stores
       refused_stores = refused_keeps ss [] (append_fault area message (length at) (length value)) ne
 
-      refused_plain : (missing : Bool) → plain_append (refuses (expected_log_refusal area log (an_append message at value))) missing (an_append message at value)
+      refused_plain : (missing : Bool) → plain_append (refuses (expected_log_refusal area log (an_append message at value))) missing
+          (an_append message at value)
           log ≡ log
       unfolding plain_append refuses
       refused_plain missing =

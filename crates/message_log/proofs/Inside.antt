@@ -19,7 +19,8 @@ use Rattle.stores.proofs.Bytes.{append_inside, run_inside, cond_below, marked_be
 use Rattle.message_log.specs.Area.{cells_in, area_fault, marked_line, payload_line}
 use Rattle.message_log.specs.Bit.{bit_pair}
 use Rattle.message_log.specs.Message.{highest}
-use Rattle.message_log.specs.Append.{message_line, line_count, payload_stores, payloads_from, pairs_word, marked_body, message_stores, next_message, append_stores}
+use Rattle.message_log.specs.Append.{message_line, line_count, payload_stores, payloads_from, pairs_word, marked_body, message_stores, next_message}
+use Rattle.message_log.specs.Append.{append_stores}
 use Rattle.message_log.specs.Append.{message_fault, append_fault}
 use Rattle.message_log.specs.AppendAfter.{append_after_fault}
 use Rattle.message_log.specs.Recover.{is_above, invalidation, invalidations, recovery_stores}

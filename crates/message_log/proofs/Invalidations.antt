@@ -144,5 +144,6 @@ module _ (m : ℕ → ℕ) (h cells : ℕ) (counts : ℕ → ℕ) where
       go (inr a) =
           subst (λ (L : ℕ → ℕ). version_of (L 7) ≤ h) (sym (below_kept c a))
           (by_cases (dec_lt h (version_of (marked_line m c 7)))
-          (λ v. absurd (true-false (both _ _ (sym (ap (λ (L : ℕ → ℕ). whole (L 0) (L 7)) (below_kept c a)) ∙ w) (lt-ltb h (version_of (marked_line m c 7)) v)) a))
+          (λ v. absurd (true-false (both _ _ (sym (ap (λ (L : ℕ → ℕ). whole (L 0) (L 7)) (below_kept c a)) ∙ w) (lt-ltb h (version_of (marked_line m c 7)) v))
+          a))
           (λ v. omega arith))

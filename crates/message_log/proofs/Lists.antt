@@ -89,7 +89,8 @@ module _ (area : List ℕ) (room : ℕ) (a : LogOutcome) (at₀ value₀ at₁ v
     append-fault : append_fault area message (min 56 room) (min 56 room) ≡ append_fault area message room room
     unfolding append_fault
     append-fault =
-        ap (λ (n : ℕ). or_else (area_fault area) (or_else (message_fault (length message)) (or_else (version_fault (next_message (cells_in area) (word area))) n)))
+        ap (λ (n : ℕ). or_else (area_fault area)
+        (or_else (message_fault (length message)) (or_else (version_fault (next_message (cells_in area) (word area))) n)))
         (short_room (length stores) 56 room (append_few (cells_in area) (word area) message))
 
     append_fits : append_fault area message room room ≡ 0 → length stores ≤ room

@@ -13,7 +13,8 @@ use Rattle.prelude.proofs.Histories.{throughout}
 use Rattle.words.specs.Word.{word}
 use Rattle.message_log.specs.Area.{cells_of, cells_in}
 use Rattle.message_log.specs.Message.{is_complete, highest, in_window, shown}
-use Rattle.message_log.specs.Event.{LogCall, a_recovery, CutRecovery, LogRestart, LogEvent, call_done, call_cut, area_done, area_cut, area_after_all, area_after}
+use Rattle.message_log.specs.Event.{LogCall, a_recovery, CutRecovery, LogRestart, LogEvent, call_done, call_cut, area_done, area_cut, area_after_all}
+use Rattle.message_log.specs.Event.{area_after}
 use Rattle.message_log.specs.Event.{Messages, is_missing, messages_after, FitsCall, recovery_fits, FitsEvent, done_fits, cut_fits}
 use Rattle.message_log.specs.Rule.{RestartCorrect, EventCorrect, LogHolds, LogRule}
 use Rattle.message_log.specs.RuleAfter.{last_after, LogState, state_after, EventAfterCorrect, LogHoldsAfter, LogRuleAfter}

@@ -57,7 +57,8 @@ stored_list ks fault d number ss list = numbered ks (λ (r : LogListResult). r.a
 
 -- THE NUMBERS of the log's calls
 pub log_numbers : LogNumbers
-unfolding append_after_result append_after_fault append_after_stores next_message append_stores append_fault append_result append_list_result log_recover_result log_recover_list_result read_result part_result
+unfolding append_after_result append_after_fault append_after_stores next_message append_stores append_fault append_result append_list_result
+    log_recover_result log_recover_list_result read_result part_result
 log_numbers =
     record {
       append = λ area message at value. handed append_refusals _ (append_due area (highest (cells_in area) (word area)) message _ _) _ _ at value;

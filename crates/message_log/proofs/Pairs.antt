@@ -79,7 +79,8 @@ module _ (area : List ℕ) (n : ℕ) (message : List ℕ) (i : ℕ) where
       pair_apart same =
           place_apart (line (word area) n) (message_line message i) place (sym q) some (old_word area n place pair_place ∙ sym e ∙ same ∙ f)
 
-      pub pair_some : (r : ℕ) → a < 2 ^ 64 → b < 2 ^ 64 → r ≡ 64 * place + count_trailing_zeros 64 (bit_xor a b) + 512 * bit_at b (count_trailing_zeros 64 (bit_xor a b))
+      pub pair_some : (r : ℕ) → a < 2 ^ 64 → b < 2 ^ 64 → r ≡ 64 * place + count_trailing_zeros 64 (bit_xor a b) + 512 * bit_at b
+          (count_trailing_zeros 64 (bit_xor a b))
           → r ≡ bit_pair (line (word area) n) (message_line message i)
       unfolding bit_pair
       pair_some r ha hb h =

@@ -19,7 +19,8 @@ use Rattle.message_log.specs.Area.{cells_in, area_fault, payload_line}
 use Rattle.message_log.specs.Bit.{differing_place, store_count, bit_pair, packed}
 use Rattle.message_log.specs.Message.{highest}
 use Rattle.message_log.specs.LogOutcome.{short_fault, log_end}
-use Rattle.message_log.specs.Append.{message_line, line_count, payload_stores, payloads_from, pairs_word, marked_body, marked_words, message_stores, message_fault}
+use Rattle.message_log.specs.Append.{message_line, line_count, payload_stores, payloads_from, pairs_word, marked_body, marked_words, message_stores}
+use Rattle.message_log.specs.Append.{message_fault}
 use Rattle.message_log.specs.Append.{next_message, append_stores, append_fault, append_result}
 use Rattle.message_log.specs.AppendAfter.{append_after_stores, append_after_fault, append_after_result}
 use Rattle.message_log.specs.inner.Needs.{CellCount, Filled, ListRoom, PayloadPlanned, AppendPlanned, AppendAfterReady, AppendAfterPlanned}
@@ -111,7 +112,8 @@ module _ (m : ℕ → ℕ) (c : ℕ) (message : List ℕ) where
         g.packs,
         low (6 - i) (omega (arith, g.left))
             (packed_low pair_at
-            (λ x. pair_low (payload_line m c x) (message_line message x) (λ j l. fits (8 * (7 * c + 1 + x) + j % 8)) (λ j l. word_range message (8 * x + j) b)) i
+            (λ x. pair_low (payload_line m c x) (message_line message x) (λ j l. fits (8 * (7 * c + 1 + x) + j % 8)) (λ j l. word_range message (8 * x + j) b))
+            i
             (6 - i)),
       )
     where

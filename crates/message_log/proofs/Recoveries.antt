@@ -38,7 +38,8 @@ module _ (m : ℕ → ℕ) (top c mark stamp : ℕ) (a : mark ≡ m (8 * (7 * c)
   above_open ne =
       sym
       (ap (λ (t : Bool). t && ltb top (version_of (marked_line m c 7)))
-      (ne_eqb (marked_line m c 0) (marked_line m c 7 % 2) (λ (e : marked_line m c 0 ≡ marked_line m c 7 % 2). ne (mark_is ∙ e ∙ ap (λ (x : ℕ). x % 2) (sym b)))))
+      (ne_eqb (marked_line m c 0) (marked_line m c 7 % 2)
+      (λ (e : marked_line m c 0 ≡ marked_line m c 7 % 2). ne (mark_is ∙ e ∙ ap (λ (x : ℕ). x % 2) (sym b)))))
 
   pub above_whole : mark ≡ stamp % 2 → ltb top (stamp / 2) ≡ is_above m top c
   unfolding is_above

@@ -14,7 +14,8 @@ use Rattle.message_log.specs.LogOutcome.{LogResult, log_end, LogListResult}
 use Rattle.message_log.specs.Append.{append_result, append_list_result}
 use Rattle.message_log.specs.Recover.{log_recover_result, log_recover_list_result}
 use Rattle.message_log.specs.Read.{read_part, read_end, read_result, part_result}
-use Rattle.message_log.specs.Event.{LogCall, an_append, a_read, a_recovery, LogRestart, LogEvent, call_done, call_cut, log_stores, area_done, area_cut, area_again, area_after_all, area_after, Messages, expected_log_refusal, messages_after, FitsEvent}
+use Rattle.message_log.specs.Event.{LogCall, an_append, a_read, a_recovery, LogRestart, LogEvent, call_done, call_cut, log_stores, area_done, area_cut}
+use Rattle.message_log.specs.Event.{area_again, area_after_all, area_after, Messages, expected_log_refusal, messages_after, FitsEvent}
 
 -- the messages shown of numbers 1 to n, by rising number
 unfoldable pub shown_up_to : (cells : ℕ) → (area : List ℕ) → (n : ℕ) → Messages

@@ -24,5 +24,7 @@ write_word-requires c =
 pub returns : goal.returns
 unfolding first_query
 returns c =
-    record { result = (query_put _ _ _ _ c.next_fault-fault.ensures c.if-fault-ne0.false _ _
-    c.write_word.ensures.result (c.first_word.ensures.result ∙ ap first_word c.read_word.ensures.result)) }
+    record {
+      result = (query_put _ _ _ _ c.next_fault-fault.ensures c.if-fault-ne0.false _ _
+          c.write_word.ensures.result (c.first_word.ensures.result ∙ ap first_word c.read_word.ensures.result));
+    }

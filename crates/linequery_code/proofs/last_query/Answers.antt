@@ -28,6 +28,8 @@ write_word-requires c =
 pub returns : goal.returns
 unfolding last_query
 returns c =
-    record { result = (query_put _ _ _ _ c.next_fault-fault.ensures c.if-fault-ne0.false _ _
-    c.write_word.ensures.result
-    (c.last_word.ensures.result ∙ ap (λ (x : ℕ). last_word_of x c.args.version) c.read_word.ensures.result)) }
+    record {
+      result = (query_put _ _ _ _ c.next_fault-fault.ensures c.if-fault-ne0.false _ _
+          c.write_word.ensures.result
+          (c.last_word.ensures.result ∙ ap (λ (x : ℕ). last_word_of x c.args.version) c.read_word.ensures.result));
+    }

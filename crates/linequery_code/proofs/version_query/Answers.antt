@@ -24,5 +24,7 @@ write_word-requires c =
 pub returns : goal.returns
 unfolding version_query
 returns c =
-    record { result = (query_put _ _ _ _ c.slice_fault-fault.ensures c.if-fault-ne0.false _ _
-    c.write_word.ensures.result (c.version_of.ensures.result ∙ ap version_of c.read_word.ensures.result)) }
+    record {
+      result = (query_put _ _ _ _ c.slice_fault-fault.ensures c.if-fault-ne0.false _ _
+          c.write_word.ensures.result (c.version_of.ensures.result ∙ ap version_of c.read_word.ensures.result));
+    }

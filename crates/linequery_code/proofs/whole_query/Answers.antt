@@ -30,6 +30,8 @@ write_word-requires c =
 pub returns : goal.returns
 unfolding whole_query
 returns c =
-    record { result = (query_put _ _ _ _ c.slice_fault-fault.ensures c.if-fault-ne0.false _ _ c.write_word.ensures.result
-    (c.whole_word.ensures ∙ ap₂ (λ (x y : ℕ). cond (whole x y) 1 0) c.read_word.ensures.result
-    c.read_word-2.ensures.result)) }
+    record {
+      result = (query_put _ _ _ _ c.slice_fault-fault.ensures c.if-fault-ne0.false _ _ c.write_word.ensures.result
+          (c.whole_word.ensures ∙ ap₂ (λ (x y : ℕ). cond (whole x y) 1 0) c.read_word.ensures.result
+          c.read_word-2.ensures.result));
+    }

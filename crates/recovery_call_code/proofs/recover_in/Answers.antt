@@ -50,12 +50,11 @@ returns-then-n-lt16384 c =
     record { result = (c.recover_16384.ensures.result) }
 
 pub recover_65536-requires : goal.recover_65536-requires
-recover_65536-requires c =
-    (
-      lent_ready _ _ _ _ _ _ c.requires c.lent_fault-fault.ensures.result c.if-fault-ne0.false c.slot_count-n.ensures.result,
-      lent_few _ c.args.image.now c.args.heads.now c.args.next.now _ _ c.lent_fault-fault.ensures.result
-          c.if-fault-ne0.false c.slot_count-n.ensures.result,
-    )
+recover_65536-requires c = (
+  lent_ready _ _ _ _ _ _ c.requires c.lent_fault-fault.ensures.result c.if-fault-ne0.false c.slot_count-n.ensures.result,
+  lent_few _ c.args.image.now c.args.heads.now c.args.next.now _ _ c.lent_fault-fault.ensures.result
+      c.if-fault-ne0.false c.slot_count-n.ensures.result,
+)
 
 pub returns : goal.returns
 returns c =

@@ -18,8 +18,7 @@ returns-then-told-ne0 c =
     }
 
 pub choose_unrefused-requires : goal.choose_unrefused-requires
-choose_unrefused-requires c =
-    (
+choose_unrefused-requires c = (
   c.requires.0,
   c.requires.1,
   c.requires.2,

@@ -24,17 +24,18 @@ returns-then-n-p c =
 
 pub returns-then-p-eq0-2 : goal.returns-then-p-eq0-2
 returns-then-p-eq0-2 c =
-    record { result = (choice_over _ _ _ _ _ _ c.loop-p.invariant.0 c.loop-p-test.true _ c.if-p-eq0.false c.if-p-eq0-2.true
-    c.none_chosen-then-p-eq0-2.ensures.result) }
+    record {
+      result = (choice_over _ _ _ _ _ _ c.loop-p.invariant.0 c.loop-p-test.true _ c.if-p-eq0.false c.if-p-eq0-2.true
+          c.none_chosen-then-p-eq0-2.ensures.result);
+    }
 
 pub meet_below-p-requires : goal.meet_below-p-requires
-meet_below-p-requires c =
-    (
-      c.requires.0,
-      meetable_here _ _ _ _ _ _ c.loop-p.invariant.0 c.requires.2 c.loop-p-test.true c.if-p-eq0.false
-          c.if-n-p.false
-          c.if-p-eq0-2.false,
-    )
+meet_below-p-requires c = (
+  c.requires.0,
+  meetable_here _ _ _ _ _ _ c.loop-p.invariant.0 c.requires.2 c.loop-p-test.true c.if-p-eq0.false
+      c.if-n-p.false
+      c.if-p-eq0-2.false,
+)
 
 pub loop-p-smaller : goal.loop-p-smaller
 loop-p-smaller c =
@@ -55,11 +56,15 @@ loop-p-preserved c =
 
 pub returns-then-fault-ne0 : goal.returns-then-fault-ne0
 returns-then-fault-ne0 c =
-    record { result = (choice_end_refused _ _ _ _ _ _ c.loop-p.invariant.0 c.loop-p-test.false _ c.end_fault-fault.ensures.result _
-    c.none_chosen-then-fault-ne0.ensures.result
-    c.if-fault-ne0.true) }
+    record {
+      result = (choice_end_refused _ _ _ _ _ _ c.loop-p.invariant.0 c.loop-p-test.false _ c.end_fault-fault.ensures.result _
+          c.none_chosen-then-fault-ne0.ensures.result
+          c.if-fault-ne0.true);
+    }
 
 pub returns : goal.returns
 returns c =
-    record { result = (choice_done _ _ _ _ _ _ c.loop-p.invariant.0 c.loop-p-test.false _ c.end_fault-fault.ensures.result
-    c.if-fault-ne0.false) }
+    record {
+      result = (choice_done _ _ _ _ _ _ c.loop-p.invariant.0 c.loop-p-test.false _ c.end_fault-fault.ensures.result
+          c.if-fault-ne0.false);
+    }

@@ -15,12 +15,11 @@ loop-p-init c =
 
 pub meet-p-requires : goal.meet-p-requires
 unfolding allocation_chosen
-meet-p-requires c =
-    (
-      c.requires.0,
-      meetable _ _ _ _ _ _ c.loop-p.invariant.0 (choice_fine _ _ _ _ _ _ c.requires.1 c.requires.4) c.requires.2 c.loop-p-test.true,
-      c.loop-p.invariant.1,
-    )
+meet-p-requires c = (
+  c.requires.0,
+  meetable _ _ _ _ _ _ c.loop-p.invariant.0 (choice_fine _ _ _ _ _ _ c.requires.1 c.requires.4) c.requires.2 c.loop-p-test.true,
+  c.loop-p.invariant.1,
+)
 
 pub loop-p-smaller : goal.loop-p-smaller
 unfolding allocation_chosen
@@ -33,8 +32,7 @@ loop-p-smaller c =
 
 pub loop-p-preserved : goal.loop-p-preserved
 unfolding allocation_chosen
-loop-p-preserved c =
-    (
+loop-p-preserved c = (
   choosing_on _ _ _ _ _ _ c.loop-p.invariant.0 c.requires.2 c.loop-p-test.true
       (meetable _ _ _ _ _ _ c.loop-p.invariant.0 (choice_fine _ _ _ _ _ _ c.requires.1 c.requires.4) c.requires.2 c.loop-p-test.true)
       (c.shared_slice_known-2-1.given _).fits _ c.meet-p.ensures.is,

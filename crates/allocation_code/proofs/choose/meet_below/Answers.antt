@@ -15,14 +15,13 @@ bounds-next-slot c =
     omega (arith, c.requires.0.next_size, c.requires.1.high)
 
 pub may_take_after-requires : goal.may_take_after-requires
-may_take_after-requires c =
-    (
-      record { layout = c.requires.0.layout; room = omega (arith, c.requires.0.image-size, c.requires.1.high) },
-      omega
-          (arith, c.requires.0.image-size),
-      record
-          { few = omega (arith, c.requires.1.few); inside = λ j h. omega (arith, (c.requires.1.chosen_in j h).1, c.requires.0.image-size) },
-    )
+may_take_after-requires c = (
+  record { layout = c.requires.0.layout; room = omega (arith, c.requires.0.image-size, c.requires.1.high) },
+  omega
+      (arith, c.requires.0.image-size),
+  record
+      { few = omega (arith, c.requires.1.few); inside = λ j h. omega (arith, (c.requires.1.chosen_in j h).1, c.requires.0.image-size) },
+)
 
 pub bounds-slots-got : goal.bounds-slots-got
 bounds-slots-got c =

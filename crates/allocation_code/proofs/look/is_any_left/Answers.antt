@@ -12,20 +12,18 @@ loop-t-init c =
     (clear_none _ _ _ _ _ _, omega arith)
 
 pub is_left-requires : goal.is_left-requires
-is_left-requires c =
-    (
-      record { layout = c.requires.0; room = omega (arith, c.requires.1, c.loop-t-test.true) },
-      c.requires.2,
-      c.key_marks-marks.ensures,
-    )
+is_left-requires c = (
+  record { layout = c.requires.0; room = omega (arith, c.requires.1, c.loop-t-test.true) },
+  c.requires.2,
+  c.key_marks-marks.ensures,
+)
 
 pub returns-then-is_left : goal.returns-then-is_left
 returns-then-is_left c =
     record { result = (λ e. absurd (true≢false e)) }
 
 pub loop-t-preserved : goal.loop-t-preserved
-loop-t-preserved c =
-    (
+loop-t-preserved c = (
   clear_one _ _ _ _ _ _ _ c.loop-t.invariant.0 (c.is_left.ensures c.if-is_left.false),
   omega (arith, c.loop-t-test.true),
 )

@@ -20,11 +20,10 @@ bounds-slots-j c =
     omega (arith, c.loop-j.invariant.position, c.requires.1.few, c.loop-j-test.true)
 
 pub is_older_left-requires : goal.is_older_left-requires
-is_older_left-requires c =
-    (
-      record { layout = c.requires.0.layout; room = c.requires.1.inside _ (omega (arith, c.loop-j.invariant.position, c.loop-j-test.true)) },
-      c.requires.0,
-    )
+is_older_left-requires c = (
+  record { layout = c.requires.0.layout; room = c.requires.1.inside _ (omega (arith, c.loop-j.invariant.position, c.loop-j-test.true)) },
+  c.requires.0,
+)
 
 pub returns-then-is_older_left : goal.returns-then-is_older_left
 returns-then-is_older_left c =

@@ -16,13 +16,12 @@ returns-then-choice-ne0 c =
     λ e. absurd (true≢false (sym e))
 
 pub is_any_left-requires : goal.is_any_left-requires
-is_any_left-requires c =
-    (
-      c.requires.0.layout,
-      omega (arith, c.requires.0.image-size),
-      choice_inside c.args.image.now c.args.next.now _ _ _ _ _ c.requires.0.image-size c.requires.2
-          c.choose_below-choice.ensures.result c.if-choice-ne0.false,
-    )
+is_any_left-requires c = (
+  c.requires.0.layout,
+  omega (arith, c.requires.0.image-size),
+  choice_inside c.args.image.now c.args.next.now _ _ _ _ _ c.requires.0.image-size c.requires.2
+      c.choose_below-choice.ensures.result c.if-choice-ne0.false,
+)
 
 pub returns : goal.returns
 returns c =

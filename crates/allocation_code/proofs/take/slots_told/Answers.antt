@@ -13,17 +13,21 @@ is_clear_ahead-requires c =
 
 pub returns-then-is_clear_ahead : goal.returns-then-is_clear_ahead
 returns-then-is_clear_ahead c =
-    record { result = (record {
-      fault_is = sym (c.is_clear_ahead.ensures c.if-is_clear_ahead.true);
-      known = record { bounded = c.requires.3; exactly = λ q. absurd (true≢false (sym q)) };
-    }) }
+    record {
+      result = (record {
+        fault_is = sym (c.is_clear_ahead.ensures c.if-is_clear_ahead.true);
+        known = record { bounded = c.requires.3; exactly = λ q. absurd (true≢false (sym q)) };
+      });
+    }
 
 pub returns-then-is_clear_by : goal.returns-then-is_clear_by
 returns-then-is_clear_by c =
-    record { result = (record {
-      fault_is = sym (c.is_clear_by.ensures c.if-is_clear_by.true).fine;
-      known = record { bounded = c.requires.3; exactly = (c.is_clear_by.ensures c.if-is_clear_by.true).highest };
-    }) }
+    record {
+      result = (record {
+        fault_is = sym (c.is_clear_by.ensures c.if-is_clear_by.true).fine;
+        known = record { bounded = c.requires.3; exactly = (c.is_clear_by.ensures c.if-is_clear_by.true).highest };
+      });
+    }
 
 pub highest_valid-top-requires : goal.highest_valid-top-requires
 highest_valid-top-requires c =

@@ -20,12 +20,11 @@ returns-then-n-slot c =
     above _ _ _ _ _ _ _ _ _ c.loop-left.invariant c.if-n-slot.true
 
 pub may_take-requires : goal.may_take-requires
-may_take-requires c =
-    (
-      record { layout = c.requires.0.layout; room = omega (arith, c.requires.0.image-size, c.if-n-slot.false) },
-      omega
-          (arith, c.requires.0.image-size),
-    )
+may_take-requires c = (
+  record { layout = c.requires.0.layout; room = omega (arith, c.requires.0.image-size, c.if-n-slot.false) },
+  omega
+      (arith, c.requires.0.image-size),
+)
 
 pub returns-then-need-eq1 : goal.returns-then-need-eq1
 returns-then-need-eq1 c =

@@ -17,12 +17,11 @@ returns-then-p-ne0 c =
     record { result = (basket_refused _ _ _ _ _ c.args.state _ _ _ c.args.count _ (c.plan-p.ensures.result.fault_is _) c.if-p-ne0.true) }
 
 pub store_basket-requires : goal.store_basket-requires
-store_basket-requires c =
-    (
-      c.requires,
-      ready_plan _ _ _ _ _ _ c.args.state _ _ _ _ _ c.if-p-ne0.false
-          (c.plan-p.ensures.result.ready c.if-p-ne0.false),
-    )
+store_basket-requires c = (
+  c.requires,
+  ready_plan _ _ _ _ _ _ c.args.state _ _ _ _ _ c.if-p-ne0.false
+      (c.plan-p.ensures.result.ready c.if-p-ne0.false),
+)
 
 pub shape_of-heads : goal.shape_of-heads
 shape_of-heads c =
@@ -42,5 +41,7 @@ shape_of-words c =
 
 pub returns : goal.returns
 returns c =
-    record { result = (basket_taken _ _ _ _ _ c.args.state _ _ _ _ _ _ (c.plan-p.ensures.result.fault_is _) c.if-p-ne0.false _
-    c.store_basket.ensures) }
+    record {
+      result = (basket_taken _ _ _ _ _ c.args.state _ _ _ _ _ _ (c.plan-p.ensures.result.fault_is _) c.if-p-ne0.false _
+          c.store_basket.ensures);
+    }

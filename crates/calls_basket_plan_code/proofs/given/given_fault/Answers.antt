@@ -14,8 +14,10 @@ any_twice-requires c =
 
 pub returns-then-any_twice : goal.returns-then-any_twice
 returns-then-any_twice c =
-    record { result = (given_twice _ _ _ _ _ _ c.key_count_fault-number.ensures c.if-number-ne0.false _ c.any_twice.ensures
-    c.if-any_twice.true) }
+    record {
+      result = (given_twice _ _ _ _ _ _ c.key_count_fault-number.ensures c.if-number-ne0.false _ c.any_twice.ensures
+          c.if-any_twice.true);
+    }
 
 pub lists_fault-requires : goal.lists_fault-requires
 lists_fault-requires c =
@@ -23,5 +25,7 @@ lists_fault-requires c =
 
 pub returns : goal.returns
 returns c =
-    record { result = (given_lists _ _ _ _ _ _ c.key_count_fault-number.ensures c.if-number-ne0.false _ c.any_twice.ensures
-    c.if-any_twice.false _ c.lists_fault.ensures) }
+    record {
+      result = (given_lists _ _ _ _ _ _ c.key_count_fault-number.ensures c.if-number-ne0.false _ c.any_twice.ensures
+          c.if-any_twice.false _ c.lists_fault.ensures);
+    }

@@ -26,8 +26,10 @@ find_key-found-requires c =
 pub returns-then-fault-ne0 : goal.returns-then-fault-ne0
 unfolding item_at
 returns-then-fault-ne0 c =
-    record { result = (finding_stops _ _ _ _ _ _ c.loop-i.invariant c.loop-i-test.true _ c.high_in-high.ensures.result _
-    c.find_key-found.ensures.result _ c.chain_fault-fault.ensures.result c.if-fault-ne0.true _) }
+    record {
+      result = (finding_stops _ _ _ _ _ _ c.loop-i.invariant c.loop-i-test.true _ c.high_in-high.ensures.result _
+          c.find_key-found.ensures.result _ c.chain_fault-fault.ensures.result c.if-fault-ne0.true _);
+    }
 
 pub offset_bounds-slots-i : goal.offset_bounds-slots-i
 offset_bounds-slots-i c =

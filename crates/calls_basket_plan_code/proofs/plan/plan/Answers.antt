@@ -13,24 +13,27 @@ basket_lent_fault-lent-requires c =
 
 pub returns-then-lent-ne0 : goal.returns-then-lent-ne0
 returns-then-lent-ne0 c =
-    record { result = (plan_lent _ _ _ _ _ c.args.state _ _ _ _ _ c.given_fault-given.ensures.result c.if-given-ne0.false _
-    c.basket_lent_fault-lent.ensures.result _ c.refused_plan-then-lent-ne0.ensures c.if-lent-ne0.true) }
+    record {
+      result = (plan_lent _ _ _ _ _ c.args.state _ _ _ _ _ c.given_fault-given.ensures.result c.if-given-ne0.false _
+          c.basket_lent_fault-lent.ensures.result _ c.refused_plan-then-lent-ne0.ensures c.if-lent-ne0.true);
+    }
 
 pub plan_keys-requires : goal.plan_keys-requires
-plan_keys-requires c =
-    (
-      c.requires,
-      plan_sized c.args.own _ _ _ _ c.args.state _ _ _ _ _ c.given_fault-given.ensures.result c.if-given-ne0.false _
-          c.basket_lent_fault-lent.ensures.result c.if-lent-ne0.false _ c.slot_count-n.ensures.result,
-      given_some _ _ _ _ _ _ c.given_fault-given.ensures.result c.if-given-ne0.false,
-      given_few _ _ _ _ _ _ c.given_fault-given.ensures.result c.if-given-ne0.false,
-      plan_slots c.args.own _ _ c.args.heads.now c.args.next.now c.args.state _ _ _ _ _
-          c.given_fault-given.ensures.result c.if-given-ne0.false _ c.basket_lent_fault-lent.ensures.result c.if-lent-ne0.false _
-          c.slot_count-n.ensures.result,
-    )
+plan_keys-requires c = (
+  c.requires,
+  plan_sized c.args.own _ _ _ _ c.args.state _ _ _ _ _ c.given_fault-given.ensures.result c.if-given-ne0.false _
+      c.basket_lent_fault-lent.ensures.result c.if-lent-ne0.false _ c.slot_count-n.ensures.result,
+  given_some _ _ _ _ _ _ c.given_fault-given.ensures.result c.if-given-ne0.false,
+  given_few _ _ _ _ _ _ c.given_fault-given.ensures.result c.if-given-ne0.false,
+  plan_slots c.args.own _ _ c.args.heads.now c.args.next.now c.args.state _ _ _ _ _
+      c.given_fault-given.ensures.result c.if-given-ne0.false _ c.basket_lent_fault-lent.ensures.result c.if-lent-ne0.false _
+      c.slot_count-n.ensures.result,
+)
 
 pub returns : goal.returns
 returns c =
-    record { result = (plan_keys _ _ _ _ _ c.args.state _ _ _ _ _ c.given_fault-given.ensures.result c.if-given-ne0.false _
-    c.basket_lent_fault-lent.ensures.result c.if-lent-ne0.false _ c.slot_count-n.ensures.result _
-    c.plan_keys.ensures) }
+    record {
+      result = (plan_keys _ _ _ _ _ c.args.state _ _ _ _ _ c.given_fault-given.ensures.result c.if-given-ne0.false _
+          c.basket_lent_fault-lent.ensures.result c.if-lent-ne0.false _ c.slot_count-n.ensures.result _
+          c.plan_keys.ensures);
+    }

@@ -58,15 +58,14 @@ overflow_mul-j c =
 
 pub record_stores_at-requires : goal.record_stores_at-requires
 unfolding item_at
-record_stores_at-requires c =
-    (
-      recordable _ _ _ _ _ _ _ _ _ _ _ _ c.loop-j.invariant.1 c.requires c.loop-j-test.true _ _ _ c.kind_by-kind.ensures c.loop-j.invariant.0
-          (value_of _ _ _ _ c.size_by.ensures (omega (arith, size_within _ _ _ _ _ _ _ _ c.requires _ c.loop-j-test.true _ c.size_by.ensures))),
-      c.requires.slot_fits _ c.loop-j-test.true,
-      c.requires.slot_in _ c.loop-j-test.true,
-      omega (arith, c.loop-j.invariant.1.fill.ats.size, c.requires.at_room, c.loop-j-test.true),
-      omega (arith, c.loop-j.invariant.1.fill.vals.size, c.requires.words_room, c.loop-j-test.true),
-    )
+record_stores_at-requires c = (
+  recordable _ _ _ _ _ _ _ _ _ _ _ _ c.loop-j.invariant.1 c.requires c.loop-j-test.true _ _ _ c.kind_by-kind.ensures c.loop-j.invariant.0
+      (value_of _ _ _ _ c.size_by.ensures (omega (arith, size_within _ _ _ _ _ _ _ _ c.requires _ c.loop-j-test.true _ c.size_by.ensures))),
+  c.requires.slot_fits _ c.loop-j-test.true,
+  c.requires.slot_in _ c.loop-j-test.true,
+  omega (arith, c.loop-j.invariant.1.fill.ats.size, c.requires.at_room, c.loop-j-test.true),
+  omega (arith, c.loop-j.invariant.1.fill.vals.size, c.requires.words_room, c.loop-j-test.true),
+)
 
 pub overflow_add-j : goal.overflow_add-j
 overflow_add-j c =
@@ -78,14 +77,13 @@ loop-j-smaller c =
 
 pub loop-j-preserved : goal.loop-j-preserved
 unfolding item_at
-loop-j-preserved c =
-    (
-      c.loop-j.invariant.0,
-      storing_on _ _ _ _ _ _ _ _ _ _ _ _ c.loop-j.invariant.1 c.requires c.loop-j-test.true _ _ _ _ _ _
-          c.high_in-high.ensures.result c.kind_by-kind.ensures c.loop-j.invariant.0
-          (value_of _ _ _ _ c.size_by.ensures (omega (arith, size_within _ _ _ _ _ _ _ _ c.requires _ c.loop-j-test.true _ c.size_by.ensures)))
-          c.record_stores_at.ensures.stores.0 c.record_stores_at.ensures.stores.1,
-    )
+loop-j-preserved c = (
+  c.loop-j.invariant.0,
+  storing_on _ _ _ _ _ _ _ _ _ _ _ _ c.loop-j.invariant.1 c.requires c.loop-j-test.true _ _ _ _ _ _
+      c.high_in-high.ensures.result c.kind_by-kind.ensures c.loop-j.invariant.0
+      (value_of _ _ _ _ c.size_by.ensures (omega (arith, size_within _ _ _ _ _ _ _ _ c.requires _ c.loop-j-test.true _ c.size_by.ensures)))
+      c.record_stores_at.ensures.stores.0 c.record_stores_at.ensures.stores.1,
+)
 
 pub returns : goal.returns
 returns c =

@@ -39,6 +39,8 @@ overflow_cast-result c =
 pub returns : goal.returns
 unfolding format_says
 returns c =
-    record { result = (format_done _ _ _ c.slot_count-n.ensures.result _ c.format_fault-fault.ensures
-    c.if-fault-ne0.false _ _ _
-    c.zero_bytes.ensures c.write_word.ensures.result c.write_word-2.ensures.result) }
+    record {
+      result = (format_done _ _ _ c.slot_count-n.ensures.result _ c.format_fault-fault.ensures
+          c.if-fault-ne0.false _ _ _
+          c.zero_bytes.ensures c.write_word.ensures.result c.write_word-2.ensures.result);
+    }

@@ -33,19 +33,28 @@ copy_value-moved-requires c =
 pub returns-in-Refused : goal.returns-in-Refused
 unfolding get_says key_compared get_moved
 returns-in-Refused c =
-    record { result = (compared-by (refused_count c.get_lookup-lookup.ensures _ _ c.in-Refused.is)
-      (get_refused _ _ _ _ _ _ _ c.get_lookup-lookup.ensures _ _ c.in-Refused.is)); moved = (refl) }
+    record {
+      result = (compared-by (refused_count c.get_lookup-lookup.ensures _ _ c.in-Refused.is)
+          (get_refused _ _ _ _ _ _ _ c.get_lookup-lookup.ensures _ _ c.in-Refused.is));
+      moved = (refl);
+    }
 
 pub returns-in-NotHeld : goal.returns-in-NotHeld
 unfolding get_says key_compared get_moved
 returns-in-NotHeld c =
-    record { result = (compared-by (allowed_count c.get_lookup-lookup.ensures _ _ c.in-Accepted.is)
-      (get_not_held _ _ _ _ _ _ _ c.get_lookup-lookup.ensures _ _ (allowed_at c.in-Accepted.is c.in-NotHeld.is))); moved = (refl) }
+    record {
+      result = (compared-by (allowed_count c.get_lookup-lookup.ensures _ _ c.in-Accepted.is)
+          (get_not_held _ _ _ _ _ _ _ c.get_lookup-lookup.ensures _ _ (allowed_at c.in-Accepted.is c.in-NotHeld.is)));
+      moved = (refl);
+    }
 
 pub returns-in-Held : goal.returns-in-Held
 unfolding get_says key_compared get_moved
 returns-in-Held c =
-    record { result = (compared-by (allowed_count c.get_lookup-lookup.ensures _ _ c.in-Accepted.is)
+    record {
+      result = (compared-by (allowed_count c.get_lookup-lookup.ensures _ _ c.in-Accepted.is)
           (get_held _ _ _ _ _ _ _ c.get_lookup-lookup.ensures _ _ _ (allowed_at c.in-Accepted.is c.in-Held.is) _
           c.slot_length-n.ensures.result _
-          c.copy_value-moved.ensures.result.1)); moved = (c.copy_value-moved.ensures.result.0) }
+          c.copy_value-moved.ensures.result.1));
+      moved = (c.copy_value-moved.ensures.result.0);
+    }

@@ -21,8 +21,10 @@ left answer compared = record { answer = answer; out = []; compared = compared }
 pub returns-then-lent-ne0 : goal.returns-then-lent-ne0
 unfolding locate_says
 returns-then-lent-ne0 c =
-    record { result = (ap₂ left (locate_refused _ _ _ _ _ _ c.lent_fault-lent.ensures.result c.if-lent-ne0.true)
-    (refused_compares _ _ _ _ _ _ c.lent_fault-lent.ensures.result c.if-lent-ne0.true)) }
+    record {
+      result = (ap₂ left (locate_refused _ _ _ _ _ _ c.lent_fault-lent.ensures.result c.if-lent-ne0.true)
+          (refused_compares _ _ _ _ _ _ c.lent_fault-lent.ensures.result c.if-lent-ne0.true));
+    }
 
 pub find_key-found-requires : goal.find_key-found-requires
 find_key-found-requires c =
@@ -38,22 +40,28 @@ read_word-requires c =
 pub returns-in-At : goal.returns-in-At
 unfolding locate_says compared_in
 returns-in-At c =
-    record { result = (ap₂ left
-    (locate_held _ _ _ _ _ _ c.lent_fault-lent.ensures.result c.if-lent-ne0.false _ c.find_key-found.ensures.result _ _ _ _ c.in-At.is
-    c.read_word.ensures.result)
-    (locate_compares _ _ _ _ _ _ c.lent_fault-lent.ensures.result c.if-lent-ne0.false _ c.find_key-found.ensures.result _ c.in-At.is)) }
+    record {
+      result = (ap₂ left
+          (locate_held _ _ _ _ _ _ c.lent_fault-lent.ensures.result c.if-lent-ne0.false _ c.find_key-found.ensures.result _ _ _ _ c.in-At.is
+          c.read_word.ensures.result)
+          (locate_compares _ _ _ _ _ _ c.lent_fault-lent.ensures.result c.if-lent-ne0.false _ c.find_key-found.ensures.result _ c.in-At.is));
+    }
 
 pub returns-in-Missing : goal.returns-in-Missing
 unfolding locate_says compared_in
 returns-in-Missing c =
-    record { result = (ap₂ left
-    (locate_not_held _ _ _ _ _ _ c.lent_fault-lent.ensures.result c.if-lent-ne0.false _ c.find_key-found.ensures.result _ _
-    c.in-Missing.is)
-    (locate_compares _ _ _ _ _ _ c.lent_fault-lent.ensures.result c.if-lent-ne0.false _ c.find_key-found.ensures.result _ c.in-Missing.is)) }
+    record {
+      result = (ap₂ left
+          (locate_not_held _ _ _ _ _ _ c.lent_fault-lent.ensures.result c.if-lent-ne0.false _ c.find_key-found.ensures.result _ _
+          c.in-Missing.is)
+          (locate_compares _ _ _ _ _ _ c.lent_fault-lent.ensures.result c.if-lent-ne0.false _ c.find_key-found.ensures.result _ c.in-Missing.is));
+    }
 
 pub returns-in-BadChain : goal.returns-in-BadChain
 unfolding locate_says compared_in
 returns-in-BadChain c =
-    record { result = (ap₂ left
-    (locate_bad _ _ _ _ _ _ c.lent_fault-lent.ensures.result c.if-lent-ne0.false _ c.find_key-found.ensures.result c.in-BadChain.is)
-    (locate_compares _ _ _ _ _ _ c.lent_fault-lent.ensures.result c.if-lent-ne0.false _ c.find_key-found.ensures.result _ c.in-BadChain.is)) }
+    record {
+      result = (ap₂ left
+          (locate_bad _ _ _ _ _ _ c.lent_fault-lent.ensures.result c.if-lent-ne0.false _ c.find_key-found.ensures.result c.in-BadChain.is)
+          (locate_compares _ _ _ _ _ _ c.lent_fault-lent.ensures.result c.if-lent-ne0.false _ c.find_key-found.ensures.result _ c.in-BadChain.is));
+    }

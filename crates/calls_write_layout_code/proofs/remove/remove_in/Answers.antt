@@ -41,8 +41,11 @@ shape_of-next-in-Refused c =
 pub returns-in-Refused : goal.returns-in-Refused
 unfolding change_says key_compared
 returns-in-Refused c =
-    record { result = (kept_end (refused_count c.remove_lookup-lookup.ensures.result _ _ c.in-Refused.is) _ _ _
-      (remove_refused _ _ _ _ _ _ c.remove_lookup-lookup.ensures.result _ _ c.in-Refused.is)); moved = (refl) }
+    record {
+      result = (kept_end (refused_count c.remove_lookup-lookup.ensures.result _ _ c.in-Refused.is) _ _ _
+          (remove_refused _ _ _ _ _ _ c.remove_lookup-lookup.ensures.result _ _ c.in-Refused.is));
+      moved = (refl);
+    }
 
 pub shape_of-heads-in-NotHeld : goal.shape_of-heads-in-NotHeld
 shape_of-heads-in-NotHeld c =
@@ -55,8 +58,11 @@ shape_of-next-in-NotHeld c =
 pub returns-in-NotHeld : goal.returns-in-NotHeld
 unfolding change_says key_compared
 returns-in-NotHeld c =
-    record { result = (kept_end (allowed_count c.remove_lookup-lookup.ensures.result _ _ c.in-Accepted.is) _ _ _
-      (remove_not_held _ _ _ _ _ _ c.remove_lookup-lookup.ensures.result _ _ (allowed_at c.in-Accepted.is c.in-NotHeld.is))); moved = (refl) }
+    record {
+      result = (kept_end (allowed_count c.remove_lookup-lookup.ensures.result _ _ c.in-Accepted.is) _ _ _
+          (remove_not_held _ _ _ _ _ _ c.remove_lookup-lookup.ensures.result _ _ (allowed_at c.in-Accepted.is c.in-NotHeld.is)));
+      moved = (refl);
+    }
 
 pub shape_of-heads-in-Held : goal.shape_of-heads-in-Held
 shape_of-heads-in-Held c =
@@ -69,8 +75,11 @@ shape_of-next-in-Held c =
 pub returns-in-Held : goal.returns-in-Held
 unfolding change_says key_compared
 returns-in-Held c =
-    record { result = (changed_end _ _ _ _ _ _ _ _ _ _ c.remove_stores.ensures.result _ _ _ _ _ c.remove_held-after.ensures.result
-      ∙ ap (buffers_after _)
-      (changed_by (allowed_count c.remove_lookup-lookup.ensures.result _ _ c.in-Accepted.is) _ _ _ _ _ _ _ _ _
-      (remove-held _ _ _ _ _ _ c.remove_lookup-lookup.ensures.result _ _ _ _
-      (allowed_at c.in-Accepted.is c.in-Held.is) (c.head_of-h.ensures.result.1 c.args.high)))); moved = (refl) }
+    record {
+      result = (changed_end _ _ _ _ _ _ _ _ _ _ c.remove_stores.ensures.result _ _ _ _ _ c.remove_held-after.ensures.result
+          ∙ ap (buffers_after _)
+          (changed_by (allowed_count c.remove_lookup-lookup.ensures.result _ _ c.in-Accepted.is) _ _ _ _ _ _ _ _ _
+          (remove-held _ _ _ _ _ _ c.remove_lookup-lookup.ensures.result _ _ _ _
+          (allowed_at c.in-Accepted.is c.in-Held.is) (c.head_of-h.ensures.result.1 c.args.high))));
+      moved = (refl);
+    }

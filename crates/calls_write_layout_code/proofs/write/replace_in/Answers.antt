@@ -34,8 +34,11 @@ shape_of-next-in-Refused c =
 pub returns-in-Refused : goal.returns-in-Refused
 unfolding change_says write_compared write_moved
 returns-in-Refused c =
-    record { result = (kept_end (refused_count c.replace_lookup-lookup.ensures.result _ _ c.in-Refused.is) _ _ _
-      (write_refused _ _ _ _ _ _ _ _ c.replace_lookup-lookup.ensures.result _ _ c.in-Refused.is)); moved = (refl) }
+    record {
+      result = (kept_end (refused_count c.replace_lookup-lookup.ensures.result _ _ c.in-Refused.is) _ _ _
+          (write_refused _ _ _ _ _ _ _ _ c.replace_lookup-lookup.ensures.result _ _ c.in-Refused.is));
+      moved = (refl);
+    }
 
 pub shape_of-heads-in-Accepted : goal.shape_of-heads-in-Accepted
 shape_of-heads-in-Accepted c =
@@ -48,8 +51,11 @@ shape_of-next-in-Accepted c =
 pub returns-in-Accepted : goal.returns-in-Accepted
 unfolding change_says write_compared write_moved
 returns-in-Accepted c =
-    record { result = (changed_end _ _ _ _ _ _ _ _ _ _ c.record_stores-moved.ensures.stores _ _ _ _ _ c.write_place-after.ensures.result
-      ∙ ap (buffers_after _)
-      (changed_by (allowed_count c.replace_lookup-lookup.ensures.result _ _ c.in-Accepted.is) _ _ _ _ _ _ _ _ _
-      (write_allowed _ _ _ _ _ _ _ _ c.replace_lookup-lookup.ensures.result _ _ _ c.in-Accepted.is
-      (c.head_of-h.ensures.result.1 c.args.high)))); moved = (c.record_stores-moved.ensures.moved) }
+    record {
+      result = (changed_end _ _ _ _ _ _ _ _ _ _ c.record_stores-moved.ensures.stores _ _ _ _ _ c.write_place-after.ensures.result
+          ∙ ap (buffers_after _)
+          (changed_by (allowed_count c.replace_lookup-lookup.ensures.result _ _ c.in-Accepted.is) _ _ _ _ _ _ _ _ _
+          (write_allowed _ _ _ _ _ _ _ _ c.replace_lookup-lookup.ensures.result _ _ _ c.in-Accepted.is
+          (c.head_of-h.ensures.result.1 c.args.high))));
+      moved = (c.record_stores-moved.ensures.moved);
+    }

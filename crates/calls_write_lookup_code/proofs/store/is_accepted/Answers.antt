@@ -29,9 +29,11 @@ is_open_by-requires c =
 
 pub returns : goal.returns
 returns c =
-    record { result = (λ e.
-    sym
-    (store_version _ _ c.args.state _ _ _ c.ends_fault.ensures.result c.if-ends_fault-ne0.false c.if-state-removes.false _
-    (sym (c.is_open_by.ensures.result e)) refl _ c.live_fault.ensures.result c.if-live_fault-ne0.false _
-    c.version_fault.ensures.result)
-    ∙ c.if-version_fault-ne0.false) }
+    record {
+      result = (λ e.
+          sym
+          (store_version _ _ c.args.state _ _ _ c.ends_fault.ensures.result c.if-ends_fault-ne0.false c.if-state-removes.false _
+          (sym (c.is_open_by.ensures.result e)) refl _ c.live_fault.ensures.result c.if-live_fault-ne0.false _
+          c.version_fault.ensures.result)
+          ∙ c.if-version_fault-ne0.false);
+    }

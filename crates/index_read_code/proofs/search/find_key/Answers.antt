@@ -35,8 +35,10 @@ has_key-requires c =
 
 pub returns-then-has_key : goal.returns-then-has_key
 returns-then-has_key c =
-    record { result = (here _ _ _ _ _ _ _ _ _ _ c.loop-left.invariant (search rules) c.if-at-eq0.false c.if-n-slot.false _
-    c.has_key.ensures.result c.if-has_key.true) }
+    record {
+      result = (here _ _ _ _ _ _ _ _ _ _ c.loop-left.invariant (search rules) c.if-at-eq0.false c.if-n-slot.false _
+          c.has_key.ensures.result c.if-has_key.true);
+    }
 
 pub loop-left-preserved : goal.loop-left-preserved
 loop-left-preserved c =

@@ -11,26 +11,24 @@ link-requires c =
     (c.requires.head_in, before_within _ _ _ _ _ c.slot_before-prev.ensures c.requires.size)
 
 pub append_slot-joined-requires : goal.append_slot-joined-requires
-append_slot-joined-requires c =
-    (
-      omega (arith, c.link.auto.next, c.requires.size, c.requires.old-in),
-      omega (arith, c.link.auto.next, c.requires.size, c.requires.last_in),
-    )
+append_slot-joined-requires c = (
+  omega (arith, c.link.auto.next, c.requires.size, c.requires.old-in),
+  omega (arith, c.link.auto.next, c.requires.size, c.requires.last_in),
+)
 
 pub append_slot-requires : goal.append_slot-requires
-append_slot-requires c =
-    (
-      omega (arith, c.append_slot-joined.auto.next, c.link.auto.next, c.requires.size, c.requires.slot_in),
-      omega (
-        arith,
-        c.append_slot-joined.auto.next,
-        c.link.auto.next,
-        c.requires.size,
-        c.requires.old-in,
-        append_last _ _ _
-            c.append_slot-joined.ensures.result.0,
-      ),
-    )
+append_slot-requires c = (
+  omega (arith, c.append_slot-joined.auto.next, c.link.auto.next, c.requires.size, c.requires.slot_in),
+  omega (
+    arith,
+    c.append_slot-joined.auto.next,
+    c.link.auto.next,
+    c.requires.size,
+    c.requires.old-in,
+    append_last _ _ _
+        c.append_slot-joined.ensures.result.0,
+  ),
+)
 
 pub returns : goal.returns
 returns c =

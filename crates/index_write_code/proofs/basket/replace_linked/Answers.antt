@@ -11,11 +11,10 @@ link-requires c =
     (c.requires.head_in, rw length-set (before_within _ _ _ _ _ c.slot_before-prev.ensures c.requires.size))
 
 pub append_slot-requires : goal.append_slot-requires
-append_slot-requires c =
-    (
-      rw (c.link.auto.next, length-set) (omega (arith, c.requires.size, c.requires.old-in)),
-      rw (c.link.auto.next, length-set) (omega (arith, c.requires.size, c.requires.last_in)),
-    )
+append_slot-requires c = (
+  rw (c.link.auto.next, length-set) (omega (arith, c.requires.size, c.requires.old-in)),
+  rw (c.link.auto.next, length-set) (omega (arith, c.requires.size, c.requires.last_in)),
+)
 
 pub shape_of-next : goal.shape_of-next
 shape_of-next c =

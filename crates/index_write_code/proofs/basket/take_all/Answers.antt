@@ -18,12 +18,11 @@ bounds-prevs-j c =
     omega (arith, c.loop-j-test.true, c.requires.few)
 
 pub take_slot-rest-requires : goal.take_slot-rest-requires
-take_slot-rest-requires c =
-    (
-      rw c.loop-j.invariant.size (c.requires.slot_in _ c.loop-j-test.true),
-      rw c.loop-j.invariant.size
-          (c.requires.prev_in _ c.loop-j-test.true),
-    )
+take_slot-rest-requires c = (
+  rw c.loop-j.invariant.size (c.requires.slot_in _ c.loop-j-test.true),
+  rw c.loop-j.invariant.size
+      (c.requires.prev_in _ c.loop-j-test.true),
+)
 
 pub overflow_add-j : goal.overflow_add-j
 overflow_add-j c =

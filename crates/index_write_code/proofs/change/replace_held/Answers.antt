@@ -7,11 +7,10 @@ use Rattle.index.proofs.Writes.{taken_last, taken_version, append_version, repla
 use Rattle.index_write_code.proofs.change.replace_held.Goals as goal
 
 pub append_slot-back-requires : goal.append_slot-back-requires
-append_slot-back-requires c =
-    (
-      rw (c.link.auto.next, length-set) c.requires.old-in,
-      rw (c.link.auto.next, length-set) (taken_last _ _ _ c.take-rest.ensures c.requires.last_in),
-    )
+append_slot-back-requires c = (
+  rw (c.link.auto.next, length-set) c.requires.old-in,
+  rw (c.link.auto.next, length-set) (taken_last _ _ _ c.take-rest.ensures c.requires.last_in),
+)
 
 pub overflow_add-result : goal.overflow_add-result
 overflow_add-result c =

@@ -23,12 +23,11 @@ loop-i-smaller c =
     omega (arith, c.copy_step-i.ensures.0, c.loop-i-test.true)
 
 pub loop-i-preserved : goal.loop-i-preserved
-loop-i-preserved c =
-    (
-      c.copy_step-i.auto.out ∙ c.loop-i.invariant.0,
-      copied_next _ _ _ _ _ _ _ c.requires.2 c.loop-i-test.true c.loop-i.invariant.1 _ _
-          c.copy_step-i.ensures.0 c.copy_step-i.ensures.1,
-    )
+loop-i-preserved c = (
+  c.copy_step-i.auto.out ∙ c.loop-i.invariant.0,
+  copied_next _ _ _ _ _ _ _ c.requires.2 c.loop-i-test.true c.loop-i.invariant.1 _ _
+      c.copy_step-i.ensures.0 c.copy_step-i.ensures.1,
+)
 
 pub shape_of-out : goal.shape_of-out
 shape_of-out c =

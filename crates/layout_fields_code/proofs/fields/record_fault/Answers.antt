@@ -10,8 +10,7 @@ returns-then-fault-ne0 c =
 
 -- `layout_fields_code::fields::record_fault` meets its contract. Assumes nothing.
 pub tail_fault-requires : goal.tail_fault-requires
-tail_fault-requires c =
-    (
+tail_fault-requires c = (
   c.requires,
   within _ _ _ c.length_of.ensures
       (sym c.word_fault-fault.ensures ∙ c.if-fault-ne0.false),
@@ -19,10 +18,14 @@ tail_fault-requires c =
 
 pub returns-then-tail_fault : goal.returns-then-tail_fault
 returns-then-tail_fault c =
-    record { result = (fault_by_tail _ _ _ _ c.slot_kind_word-w.ensures _ c.word_fault-fault.ensures c.if-fault-ne0.false _
-    c.length_of.ensures _ c.tail_fault.ensures c.if-tail_fault.true) }
+    record {
+      result = (fault_by_tail _ _ _ _ c.slot_kind_word-w.ensures _ c.word_fault-fault.ensures c.if-fault-ne0.false _
+          c.length_of.ensures _ c.tail_fault.ensures c.if-tail_fault.true);
+    }
 
 pub returns : goal.returns
 returns c =
-    record { result = (no_fault _ _ _ _ c.slot_kind_word-w.ensures _ c.word_fault-fault.ensures c.if-fault-ne0.false _
-    c.length_of.ensures _ c.tail_fault.ensures c.if-tail_fault.false) }
+    record {
+      result = (no_fault _ _ _ _ c.slot_kind_word-w.ensures _ c.word_fault-fault.ensures c.if-fault-ne0.false _
+          c.length_of.ensures _ c.tail_fault.ensures c.if-tail_fault.false);
+    }

@@ -14,5 +14,7 @@ returns-then-l-eq1 c =
 
 pub returns : goal.returns
 returns c =
-    record { result = (c.read_word.ensures.result ∙ second_at (word c.args.image.now) c.args.s
-    ∙ high_at c.args.l (line_a (word c.args.image.now) c.args.s) c.requires.layout c.if-l-eq1.false) }
+    record {
+      result = (c.read_word.ensures.result ∙ second_at (word c.args.image.now) c.args.s
+          ∙ high_at c.args.l (line_a (word c.args.image.now) c.args.s) c.requires.layout c.if-l-eq1.false);
+    }

@@ -24,8 +24,11 @@ padded_word-new-requires c =
     omega (arith, pair_within _ _ _ _ _ c.requires.found)
 
 pub pair_of-requires : goal.pair_of-requires
-pair_of-requires c =
-    (pair_apart _ _ _ _ _ c.requires.found _ _ c.if-place-eq8.false c.read_word-old.ensures.result c.padded_word-new.ensures.result, pair_place _ _ _ _ _ c.requires.found _ _ c.if-place-eq8.false c.read_word-old.ensures.result c.padded_word-new.ensures.result)
+pair_of-requires c = (
+  pair_apart _ _ _ _ _ c.requires.found _ _ c.if-place-eq8.false c.read_word-old.ensures.result c.padded_word-new.ensures.result,
+  pair_place _ _ _ _ _
+      c.requires.found _ _ c.if-place-eq8.false c.read_word-old.ensures.result c.padded_word-new.ensures.result,
+)
 
 pub returns : goal.returns
 returns c =

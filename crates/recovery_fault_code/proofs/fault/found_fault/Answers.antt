@@ -29,7 +29,10 @@ returns-then-broken-gt-BROKEN_LIMIT c =
 pub returns-then-live-n : goal.returns-then-live-n
 unfolding found_fault broken_limit
 returns-then-live-n c =
-    record { result = (search (refuse_if-true, refuse_if-false, or_else_later, rules, le-ltb 8 _ c.if-broken-gt-BROKEN_LIMIT.false, eq-eqb _ _ c.if-live-n.true)) }
+    record {
+      result =
+          (search (refuse_if-true, refuse_if-false, or_else_later, rules, le-ltb 8 _ c.if-broken-gt-BROKEN_LIMIT.false, eq-eqb _ _ c.if-live-n.true));
+    }
 
 pub returns : goal.returns
 unfolding found_fault broken_limit

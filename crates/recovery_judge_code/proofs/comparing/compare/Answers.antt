@@ -10,8 +10,10 @@ any_shared-requires c =
 
 pub returns-then-not-any_shared : goal.returns-then-not-any_shared
 returns-then-not-any_shared c =
-    record { result = (compared_none _ _ _ _ _ _ c.args.order.now _ _ _ c.requires c.order_by_rank.ensures.result _
-    c.order_by_key.ensures.result _ _ c.any_shared.ensures (not_from_false _ c.if-not-any_shared.true)) }
+    record {
+      result = (compared_none _ _ _ _ _ _ c.args.order.now _ _ _ c.requires c.order_by_rank.ensures.result _
+          c.order_by_key.ensures.result _ _ c.any_shared.ensures (not_from_false _ c.if-not-any_shared.true));
+    }
 
 pub any_run_fault-requires : goal.any_run_fault-requires
 any_run_fault-requires c =
@@ -19,8 +21,10 @@ any_run_fault-requires c =
 
 pub returns-then-any_run_fault : goal.returns-then-any_run_fault
 returns-then-any_run_fault c =
-    record { result = (compared_runs _ _ _ _ _ _ c.args.order.now _ _ _ c.requires c.order_by_rank.ensures.result _
-    c.order_by_key.ensures.result _ _ c.any_run_fault.ensures c.if-any_run_fault.true) }
+    record {
+      result = (compared_runs _ _ _ _ _ _ c.args.order.now _ _ _ c.requires c.order_by_rank.ensures.result _
+          c.order_by_key.ensures.result _ _ c.any_run_fault.ensures c.if-any_run_fault.true);
+    }
 
 pub any_key_twice-requires : goal.any_key_twice-requires
 any_key_twice-requires c =
@@ -29,6 +33,8 @@ any_key_twice-requires c =
 
 pub returns : goal.returns
 returns c =
-    record { result = (compared_keys _ _ _ _ _ _ c.args.order.now _ _ _ c.requires c.order_by_rank.ensures.result _
-    c.order_by_key.ensures.result _ _ c.any_run_fault.ensures c.if-any_run_fault.false _
-    c.any_key_twice.ensures) }
+    record {
+      result = (compared_keys _ _ _ _ _ _ c.args.order.now _ _ _ c.requires c.order_by_rank.ensures.result _
+          c.order_by_key.ensures.result _ _ c.any_run_fault.ensures c.if-any_run_fault.false _
+          c.any_key_twice.ensures);
+    }

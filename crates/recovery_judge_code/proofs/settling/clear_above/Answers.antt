@@ -31,10 +31,10 @@ loop-s-smaller c =
 pub loop-s-preserved : goal.loop-s-preserved
 loop-s-preserved c =
     elim c.if-limit-ranks.branch [
-      then-limit-ranks w ↦
+      | then-limit-ranks w ↦
           clearing_void _ _ _ _ _ _ _ c.loop-s.invariant c.loop-s-test.true c.requires.0 c.requires.1 _ refl _ _ w.if-limit-ranks.true w.ranks-is
           w.places-is
-    | else-limit-ranks w ↦
+      | else-limit-ranks w ↦
           clearing_kept _ _ _ _ _ _ _ c.loop-s.invariant c.loop-s-test.true c.requires.0 c.requires.1 _ refl _ _ w.if-limit-ranks.false w.ranks-is
           w.places-is
     ]

@@ -44,10 +44,11 @@ loop-s-smaller c =
 pub loop-s-preserved : goal.loop-s-preserved
 loop-s-preserved c =
     elim c.if-limit-ranks.branch [
-      then-limit-ranks w ↦
+      | then-limit-ranks w ↦
           invalidating_more _ _ _ _ _ c.loop-s.invariant c.loop-s-test.true _ (lt-ltb _ _ w.if-limit-ranks.true)
-          (w.opened-is ∙ w.with_store-opened.ensures ∙ ap (with_store _) (invalidating-store _ _ _ _ w.first_word-mark.ensures.result w.read_word.ensures.result))
-    | else-limit-ranks w ↦
+          (w.opened-is ∙ w.with_store-opened.ensures ∙ ap (with_store _)
+          (invalidating-store _ _ _ _ w.first_word-mark.ensures.result w.read_word.ensures.result))
+      | else-limit-ranks w ↦
           invalidating_same _ _ _ _ _ c.loop-s.invariant c.loop-s-test.true _ (le-ltb _ _ w.if-limit-ranks.false) w.opened-is
     ]
 

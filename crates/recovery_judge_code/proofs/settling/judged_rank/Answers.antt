@@ -21,8 +21,10 @@ entry_at-rank-requires c =
 
 pub returns-then-rank-lt2 : goal.returns-then-rank-lt2
 returns-then-rank-lt2 c =
-    record { result = (judging_low _ _ _ _ _ _ c.loop-i.invariant (omega arith) c.loop-i-test.true _ c.entry_at-rank.ensures.result
-    c.if-rank-lt2.true) }
+    record {
+      result = (judging_low _ _ _ _ _ _ c.loop-i.invariant (omega arith) c.loop-i-test.true _ c.entry_at-rank.ensures.result
+          c.if-rank-lt2.true);
+    }
 
 pub is_full-requires : goal.is_full-requires
 is_full-requires c =
@@ -30,9 +32,11 @@ is_full-requires c =
 
 pub returns-then-is_full : goal.returns-then-is_full
 returns-then-is_full c =
-    record { result = (judging_full _ _ _ _ _ _ c.loop-i.invariant (omega arith) c.loop-i-test.true _ c.entry_at-rank.ensures.result
-    (omega (arith, c.if-rank-lt2.false)) _ c.is_full.ensures
-    c.if-is_full.true) }
+    record {
+      result = (judging_full _ _ _ _ _ _ c.loop-i.invariant (omega arith) c.loop-i-test.true _ c.entry_at-rank.ensures.result
+          (omega (arith, c.if-rank-lt2.false)) _ c.is_full.ensures
+          c.if-is_full.true);
+    }
 
 pub loop-i-smaller : goal.loop-i-smaller
 loop-i-smaller c =

@@ -48,5 +48,7 @@ shape_of-scratch c =
 
 pub returns : goal.returns
 returns c =
-    record { result = (settled_again _ _ _ _ _ _ _ _ _ c.requires _ _ _ _ _ _ _ c.invalidating_stores-opened.ensures c.clear_above.ensures
-    c.order_by_rank.ensures.result c.order_by_key.ensures.result) }
+    record {
+      result = (settled_again _ _ _ _ _ _ _ _ _ c.requires _ _ _ _ _ _ _ c.invalidating_stores-opened.ensures c.clear_above.ensures
+          c.order_by_rank.ensures.result c.order_by_key.ensures.result);
+    }

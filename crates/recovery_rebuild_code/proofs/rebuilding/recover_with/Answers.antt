@@ -49,5 +49,7 @@ shape_of-scratch c =
 
 pub returns : goal.returns
 returns c =
-    record { result = (slots_answered _ _ _ _ _ _ _ _ _ _ _ _ c.requires.ready.0 c.judge_slots-judged.ensures.result c.rebuild_accepted-state.ensures
-    c.recover_answer.ensures) }
+    record {
+      result = (slots_answered _ _ _ _ _ _ _ _ _ _ _ _ c.requires.ready.0 c.judge_slots-judged.ensures.result c.rebuild_accepted-state.ensures
+          c.recover_answer.ensures);
+    }

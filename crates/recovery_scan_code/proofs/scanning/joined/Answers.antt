@@ -12,8 +12,8 @@ pub returns : goal.returns
 returns c =
     record {
       mark_is = elim c.if-scan.branch [
-        then-scan w ↦ or_left _ _ _ w.if-scan.true w.result-is
-      | else-scan w ↦ or_right _ _ _ w.if-scan.false w.result-is
+        | then-scan w ↦ or_left _ _ _ w.if-scan.true w.result-is
+        | else-scan w ↦ or_right _ _ _ w.if-scan.false w.result-is
       ];
       fault_is = c.first_of.ensures;
       slot_is = c.first_of-2.ensures ∙ ap (or_else _) c.slot_at_fault.ensures;

@@ -14,12 +14,11 @@ loop-s-init c =
     scan_start _ _ _ _ _ _ _ _ c.requires
 
 pub summary-slot-requires : goal.summary-slot-requires
-summary-slot-requires c =
-    (
-      record { layout = c.requires.layout; room = omega (arith, c.requires.image-size, c.loop-s-test.true) },
-      c.requires.heads_low,
-      c.requires.heads_high,
-    )
+summary-slot-requires c = (
+  record { layout = c.requires.layout; room = omega (arith, c.requires.image-size, c.loop-s-test.true) },
+  c.requires.heads_low,
+  c.requires.heads_high,
+)
 
 pub bounds-highs-s : goal.bounds-highs-s
 bounds-highs-s c =
@@ -37,8 +36,8 @@ pub loop-s-preserved : goal.loop-s-preserved
 loop-s-preserved c =
     scan_next _ _ _ _ _ _ _ _ _ _ _ _ _ c.loop-s.invariant c.loop-s-test.true c.summary-slot.ensures
     (elim c.if-l-eq2.branch [
-      then-l-eq2 w ↦ high-set _ _ _ _ _ _ w.if-l-eq2.true c.loop-s.invariant.highs_size c.loop-s-test.true w.highs-is
-    | else-l-eq2 w ↦ high_left _ _ _ _ _ _ c.requires.layout w.if-l-eq2.false c.loop-s.invariant.highs_size c.summary-slot.ensures.no_high w.highs-is
+      | then-l-eq2 w ↦ high-set _ _ _ _ _ _ w.if-l-eq2.true c.loop-s.invariant.highs_size c.loop-s-test.true w.highs-is
+      | else-l-eq2 w ↦ high_left _ _ _ _ _ _ c.requires.layout w.if-l-eq2.false c.loop-s.invariant.highs_size c.summary-slot.ensures.no_high w.highs-is
     ])
     c.joined-all.ensures
 

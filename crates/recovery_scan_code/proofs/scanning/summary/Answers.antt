@@ -13,14 +13,13 @@ slot_verdict-verdict-requires c =
 
 -- `recovery_scan_code::scanning::summary` meets its contract. Assumes nothing.
 pub valid_summary-requires : goal.valid_summary-requires
-valid_summary-requires c =
-    (
-      c.requires.0,
-      c.requires.1,
-      c.requires.2,
-      version_small _ _ _ _ (λ i. (c.shared_slice_known-1.given i).fits) c.slot_verdict-verdict.ensures.result
-          c.in-Valid.is,
-    )
+valid_summary-requires c = (
+  c.requires.0,
+  c.requires.1,
+  c.requires.2,
+  version_small _ _ _ _ (λ i. (c.shared_slice_known-1.given i).fits) c.slot_verdict-verdict.ensures.result
+      c.in-Valid.is,
+)
 
 pub returns-in-Valid : goal.returns-in-Valid
 returns-in-Valid c =

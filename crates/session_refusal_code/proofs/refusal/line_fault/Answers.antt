@@ -27,8 +27,10 @@ size_fault-size-requires c =
 pub returns-then-size-ne0 : goal.returns-then-size-ne0
 unfolding line_fault
 returns-then-size-ne0 c =
-    record { result = (search
-    (rules, or_else_first, or_else_later, ← c.form_fault-form.ensures, ← c.slots_for.ensures.result, ← c.size_fault-size.ensures)) }
+    record {
+      result = (search
+          (rules, or_else_first, or_else_later, ← c.form_fault-form.ensures, ← c.slots_for.ensures.result, ← c.size_fault-size.ensures));
+    }
 
 pub cut_fault-requires : goal.cut_fault-requires
 unfolding line_fault
@@ -38,10 +40,12 @@ cut_fault-requires c =
 pub returns : goal.returns
 unfolding line_fault
 returns c =
-    record { result = (search (
-      rules,
-      or_else_later,
-      ← c.form_fault-form.ensures,
-      ← c.slots_for.ensures.result,
-      ← c.size_fault-size.ensures,
-    )) }
+    record {
+      result = (search (
+        rules,
+        or_else_later,
+        ← c.form_fault-form.ensures,
+        ← c.slots_for.ensures.result,
+        ← c.size_fault-size.ensures,
+      ));
+    }

@@ -23,5 +23,7 @@ make_stores-requires-2 c =
 
 pub returns : goal.returns
 returns c =
-    record { result = (play_done _ _ _ _ _ _ c.play_fault-fault.ensures.result c.if-fault-ne0.false _ _ c.make_stores.ensures.result
-    c.make_stores-2.ensures.result) }
+    record {
+      result = (play_done _ _ _ _ _ _ c.play_fault-fault.ensures.result c.if-fault-ne0.false _ _ c.make_stores.ensures.result
+          c.make_stores-2.ensures.result);
+    }

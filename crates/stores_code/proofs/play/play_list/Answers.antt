@@ -16,5 +16,7 @@ make_stores-requires c =
 
 pub returns : goal.returns
 returns c =
-    record { result = (list_done _ _ _ _ c.list_fault-fault.ensures.result c.if-fault-ne0.false _
-    c.make_stores.ensures.result) }
+    record {
+      result = (list_done _ _ _ _ c.list_fault-fault.ensures.result c.if-fault-ne0.false _
+          c.make_stores.ensures.result);
+    }

@@ -8,13 +8,12 @@ pub loop-i-init : goal.loop-i-init
 loop-i-init c = (omega arith, fault_none c.args.len c.args.list.now)
 
 pub loop-i-preserved : goal.loop-i-preserved
-loop-i-preserved c =
-    (
-      omega arith,
-      c.fault_with-fault.ensures
+loop-i-preserved c = (
+  omega arith,
+  c.fault_with-fault.ensures
       ∙ ap (λ (f : ℕ). refuse_if (ltb c.args.len (8 * (get_or c.args.list.now c.loop-i.i none).word + 8)) 15 f) c.loop-i.invariant.1
       ∙ fault_next c.args.len c.args.list.now c.loop-i.i,
-    )
+)
 
 pub returns : goal.returns
 returns c =

@@ -33,10 +33,12 @@ shape_of-words-then-i-value c =
 
 pub returns-then-i-value : goal.returns-then-i-value
 returns-then-i-value c =
-    record { result = (filling_end _ _ _ _ _ _
-    (filling_next _ _ _ _ _ _ _ _ c.loop-i.invariant (omega (arith, c.if-i-value.true)) c.fill_rest.ensures.0
-    c.fill_rest.ensures.1)
-    (omega (arith, c.fill_rest.ensures.0, c.loop-i-test.false))) }
+    record {
+      result = (filling_end _ _ _ _ _ _
+          (filling_next _ _ _ _ _ _ _ _ c.loop-i.invariant (omega (arith, c.if-i-value.true)) c.fill_rest.ensures.0
+          c.fill_rest.ensures.1)
+          (omega (arith, c.fill_rest.ensures.0, c.loop-i-test.false)));
+    }
 
 pub returns : goal.returns
 returns c =
