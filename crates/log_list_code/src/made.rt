@@ -7,8 +7,8 @@ ghost use Rattle.message_log.specs.Append.{next_message, append_stores, append_f
 ghost use Rattle.message_log.specs.Recover.{recovery_stores, log_recover_fault};
 ghost use Rattle.message_log.specs.inner.List.{stored_count, StoresMade};
 
-use message_log::{AppendMade, LogOutcome, RecoveryMade};
 use log_code::{append, recover_log};
+use message_log::{AppendMade, LogOutcome, RecoveryMade};
 use words_code::lesser;
 
 // How many stores are handed out.

@@ -53,7 +53,8 @@ loop-size-smaller c =
 
 pub loop-size-preserved : goal.loop-size-preserved
 loop-size-preserved c =
-    block_next _ _ _ _ _ _ _ _ _ c.loop-size.invariant c.loop-size-test.true _ _ _ c.report_image-reported.ensures.result c.report_image-reported.auto.out c.report_image-reported.auto.next c.requires.room _
+    block_next _ _ _ _ _ _ _ _ _ c.loop-size.invariant c.loop-size-test.true _ _ _ c.report_image-reported.ensures.result c.report_image-reported.auto.out
+    c.report_image-reported.auto.next c.requires.room _
     c.readable_size-size-in-loop-size.ensures.result
 
 pub shape_of-out : goal.shape_of-out

@@ -8,8 +8,10 @@ use Rattle.report_text_code.proofs.report_front.Goals as goal
 
 pub returns-then-not-is_lent : goal.returns-then-not-is_lent
 returns-then-not-is_lent c =
-    record { answered = (front_refused c.args.input.now c.args.have c.args.p c.args.out.now _ c.is_lent.ensures.result
-    (not_from_false _ c.if-not-is_lent.true)) }
+    record {
+      answered = (front_refused c.args.input.now c.args.have c.args.p c.args.out.now _ c.is_lent.ensures.result
+          (not_from_false _ c.if-not-is_lent.true));
+    }
 
 pub slice_bounds-report_block-end : goal.slice_bounds-report_block-end
 slice_bounds-report_block-end c =
@@ -42,13 +44,12 @@ slice_bounds-ends_reading-end c =
     (not_from_true _ c.if-not-is_lent.false)
 
 pub move_down-requires : goal.move_down-requires
-move_down-requires c =
-    (
-      used_inside c.args.input.now c.args.have c.args.p c.args.out.now _ c.is_lent.ensures.result
-          (not_from_true _ c.if-not-is_lent.false) _ _ c.report_block-block.ensures.reported c.report_block-block.auto.out,
-      front_inside c.args.input.now c.args.have c.args.p c.args.out.now _ c.is_lent.ensures.result
-          (not_from_true _ c.if-not-is_lent.false),
-    )
+move_down-requires c = (
+  used_inside c.args.input.now c.args.have c.args.p c.args.out.now _ c.is_lent.ensures.result
+      (not_from_true _ c.if-not-is_lent.false) _ _ c.report_block-block.ensures.reported c.report_block-block.auto.out,
+  front_inside c.args.input.now c.args.have c.args.p c.args.out.now _ c.is_lent.ensures.result
+      (not_from_true _ c.if-not-is_lent.false),
+)
 
 pub overflow_sub-result : goal.overflow_sub-result
 overflow_sub-result c =
@@ -57,5 +58,8 @@ overflow_sub-result c =
 
 pub returns : goal.returns
 returns c =
-    record { answered = (front_reported c.args.input.now c.args.have c.args.p c.args.out.now _ c.is_lent.ensures.result
-    (not_from_true _ c.if-not-is_lent.false) _ _ c.report_block-block.ensures.reported c.report_block-block.auto.out _ c.ends_reading-ended.ensures.result _ c.move_down.auto.input c.move_down.ensures.moved) }
+    record {
+      answered = (front_reported c.args.input.now c.args.have c.args.p c.args.out.now _ c.is_lent.ensures.result
+          (not_from_true _ c.if-not-is_lent.false) _ _ c.report_block-block.ensures.reported c.report_block-block.auto.out _
+          c.ends_reading-ended.ensures.result _ c.move_down.auto.input c.move_down.ensures.moved);
+    }

@@ -8,7 +8,11 @@ use Rattle.report_text_code.proofs.report_last.Goals as goal
 
 pub returns-then-not-is_lent : goal.returns-then-not-is_lent
 returns-then-not-is_lent c =
-    record { printed = (last_refused c.args.input.now c.args.p c.args.out.now _ c.is_lent.ensures.result (not_from_false _ c.if-not-is_lent.true)); inside = (omega arith) }
+    record {
+      printed =
+          (last_refused c.args.input.now c.args.p c.args.out.now _ c.is_lent.ensures.result (not_from_false _ c.if-not-is_lent.true));
+      inside = (omega arith);
+    }
 
 pub report_block-block-requires : goal.report_block-block-requires
 report_block-block-requires c =
@@ -44,5 +48,8 @@ returns c =
       (last_lent c.args.input.now c.args.p c.args.out.now _ c.is_lent.ensures.result
           (not_from_true _ c.if-not-is_lent.false)).room,
       c.report_block-block.auto.out,
-    )) c.store_unread-end.auto.out c.store_totals.auto.out in record { printed = (last_whole c.args.input.now c.args.p c.args.out.now _ c.is_lent.ensures.result (not_from_true _ c.if-not-is_lent.false) _
-          reported.0); inside = (reported.1) }
+    )) c.store_unread-end.auto.out c.store_totals.auto.out in record {
+      printed = (last_whole c.args.input.now c.args.p c.args.out.now _ c.is_lent.ensures.result (not_from_true _ c.if-not-is_lent.false) _
+          reported.0);
+      inside = (reported.1);
+    }

@@ -8,18 +8,20 @@ use Rattle.report_text_code.proofs.start_report.Goals as goal
 pub returns : goal.returns
 unfolding no_totals
 returns c =
-    record { result = ((
-  refl,
-  record {
-    few = omega arith;
-    low =
+    record {
+      result = ((
+        refl,
         record {
-          live_low = omega arith;
-          hidden_low = omega arith;
-          removes_low = omega arith;
-          void_low = omega arith;
-          broken_low = omega arith;
-          empty_low = omega arith;
-        };
-  },
-)) }
+          few = omega arith;
+          low =
+              record {
+                live_low = omega arith;
+                hidden_low = omega arith;
+                removes_low = omega arith;
+                void_low = omega arith;
+                broken_low = omega arith;
+                empty_low = omega arith;
+              };
+        },
+      ));
+    }

@@ -18,8 +18,10 @@ shape_of-next-in-Write c =
 pub returns-in-Write : goal.returns-in-Write
 unfolding plan_says
 returns-in-Write c =
-    record { result = (course_write _ _ _ _ _ _ _ _ _ _ (ap plan_says c.in-Write.is) _ c.order_bytes-bytes.ensures.result _
-    (c.write_in_layout.ensures.result) (c.by_change.ensures _ _ _ _)) }
+    record {
+      result = (course_write _ _ _ _ _ _ _ _ _ _ (ap plan_says c.in-Write.is) _ c.order_bytes-bytes.ensures.result _
+          (c.write_in_layout.ensures.result) (c.by_change.ensures _ _ _ _));
+    }
 
 pub shape_of-heads-in-Remove : goal.shape_of-heads-in-Remove
 shape_of-heads-in-Remove c =
@@ -32,8 +34,10 @@ shape_of-next-in-Remove c =
 pub returns-in-Remove : goal.returns-in-Remove
 unfolding plan_says
 returns-in-Remove c =
-    record { result = (course_remove _ _ _ _ _ _ _ _ (ap plan_says c.in-Remove.is) _ (c.remove_in_layout.ensures.result)
-    (c.by_change-in-Remove.ensures _ _ _ _)) }
+    record {
+      result = (course_remove _ _ _ _ _ _ _ _ (ap plan_says c.in-Remove.is) _ (c.remove_in_layout.ensures.result)
+          (c.by_change-in-Remove.ensures _ _ _ _));
+    }
 
 pub returns-in-Already : goal.returns-in-Already
 unfolding plan_says book_says book_buffers_after idle stores_after

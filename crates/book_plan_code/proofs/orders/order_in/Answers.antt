@@ -13,6 +13,8 @@ returns-then-n-ne24 c =
 
 pub returns : goal.returns
 returns c =
-    record { result = (c.order_with.ensures
-    ∙ order_words _ _ c.requires c.if-n-ne24.false _ _ _ c.read_word.ensures.result
-    c.read_word-2.ensures.result c.read_word-3.ensures.result) }
+    record {
+      result = (c.order_with.ensures
+          ∙ order_words _ _ c.requires c.if-n-ne24.false _ _ _ c.read_word.ensures.result
+          c.read_word-2.ensures.result c.read_word-3.ensures.result);
+    }

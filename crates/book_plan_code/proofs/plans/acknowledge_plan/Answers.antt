@@ -12,9 +12,11 @@ use Rattle.book_plan_code.proofs.plans.acknowledge_plan.Goals as goal
 pub returns-then-order-eq2 : goal.returns-then-order-eq2
 unfolding seek_says
 returns-then-order-eq2 c =
-    record { plan = (c.already_located.ensures
-    ∙ acknowledge_again _ _ _ (sym (ap seek_says c.in-Found.is) ∙ c.seek_order-sought.ensures.order)
-    c.if-order-eq2.true _ (ap (λ (x : ReadOnlyResult). x.answer) c.locate_in_layout-answer.ensures.result)) }
+    record {
+      plan = (c.already_located.ensures
+          ∙ acknowledge_again _ _ _ (sym (ap seek_says c.in-Found.is) ∙ c.seek_order-sought.ensures.order)
+          c.if-order-eq2.true _ (ap (λ (x : ReadOnlyResult). x.answer) c.locate_in_layout-answer.ensures.result));
+    }
 
 pub returns-else-order-eq2 : goal.returns-else-order-eq2
 unfolding seek_says plan_says acknowledged

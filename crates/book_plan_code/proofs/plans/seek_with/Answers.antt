@@ -15,8 +15,10 @@ order_in-requires c =
 pub returns-in-Length : goal.returns-in-Length
 unfolding get_says
 returns-in-Length c =
-    record { order = (c.order_in.ensures.result ∙ seek_given _ _ _ _ _ _ c.requires _ c.get_in_layout-answer.ensures.result _
-    (ap get_says c.in-Length.is)) }
+    record {
+      order = (c.order_in.ensures.result ∙ seek_given _ _ _ _ _ _ c.requires _ c.get_in_layout-answer.ensures.result _
+          (ap get_says c.in-Length.is));
+    }
 
 pub returns-in-Absent : goal.returns-in-Absent
 unfolding get_says seek_says sought_in
@@ -26,5 +28,7 @@ returns-in-Absent c =
 pub returns-in-Refused : goal.returns-in-Refused
 unfolding get_says seek_says sought_in sought_number
 returns-in-Refused c =
-    record { order = (ap none_there c.sought_number.ensures ∙ seek_given _ _ _ _ _ _ c.requires _ c.get_in_layout-answer.ensures.result _
-    (ap get_says c.in-Refused.is)) }
+    record {
+      order = (ap none_there c.sought_number.ensures ∙ seek_given _ _ _ _ _ _ c.requires _ c.get_in_layout-answer.ensures.result _
+          (ap get_says c.in-Refused.is));
+    }

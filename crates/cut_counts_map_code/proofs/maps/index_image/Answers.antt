@@ -13,8 +13,10 @@ shape_of-next-in-Rebuilt c =
 
 pub returns-in-Rebuilt : goal.returns-in-Rebuilt
 returns-in-Rebuilt c =
-    record { result = (recovery_maps _ _ _ _ c.requires.1 _ _ _ _ c.recover_in-report.ensures.result.result_is c.recover_in-report.auto.heads
-    c.recover_in-report.auto.next _ c.in-Rebuilt.is) }
+    record {
+      result = (recovery_maps _ _ _ _ c.requires.1 _ _ _ _ c.recover_in-report.ensures.result.result_is c.recover_in-report.auto.heads
+          c.recover_in-report.auto.next _ c.in-Rebuilt.is);
+    }
 
 pub shape_of-heads-in-Refused : goal.shape_of-heads-in-Refused
 shape_of-heads-in-Refused c =

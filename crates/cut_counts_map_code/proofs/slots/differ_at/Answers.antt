@@ -13,15 +13,19 @@ returns-then-t-eq0 c =
 
 pub values_differ-requires : goal.values_differ-requires
 values_differ-requires c =
-    record { sound = (let s = c.slot_of-s.ensures.held c.if-s-eq0.false in
-    let t = c.slot_of-t.ensures.held c.if-t-eq0.false in (
-      own_inside _ _ _ _ c.requires.1 _ c.requires.0 s.slot,
-      own_inside _ _ _ _ c.requires.2 _ c.requires.0 t.slot,
-      s.sound,
-      t.sound,
-    )) }
+    record {
+      sound = (let s = c.slot_of-s.ensures.held c.if-s-eq0.false in
+          let t = c.slot_of-t.ensures.held c.if-t-eq0.false in (
+            own_inside _ _ _ _ c.requires.1 _ c.requires.0 s.slot,
+            own_inside _ _ _ _ c.requires.2 _ c.requires.0 t.slot,
+            s.sound,
+            t.sound,
+          ));
+    }
 
 pub returns : goal.returns
 returns c =
-    record { result = (held_both _ _ _ _ _ _ c.slot_of-s.ensures c.slot_of-t.ensures c.if-s-eq0.false c.if-t-eq0.false _
-    c.values_differ.ensures.result) }
+    record {
+      result = (held_both _ _ _ _ _ _ c.slot_of-s.ensures c.slot_of-t.ensures c.if-s-eq0.false c.if-t-eq0.false _
+          c.values_differ.ensures.result);
+    }

@@ -10,8 +10,10 @@ use Rattle.cut_counts_map_code.proofs.values.values_differ.Goals as goal
 
 pub returns-then-size-slot_length : goal.returns-then-size-slot_length
 returns-then-size-slot_length c =
-    record { result = (lengths_apart _ _ _ _ _ c.requires.sound.2 c.requires.sound.3 _ _ c.slot_length-size.ensures.result c.slot_length.ensures.result
-    c.if-size-slot_length.true) }
+    record {
+      result = (lengths_apart _ _ _ _ _ c.requires.sound.2 c.requires.sound.3 _ _ c.slot_length-size.ensures.result c.slot_length.ensures.result
+          c.if-size-slot_length.true);
+    }
 
 pub loop-i-init : goal.loop-i-init
 loop-i-init c =
@@ -31,9 +33,11 @@ value_word-requires-in-loop-i c =
 
 pub returns-then-value_word : goal.returns-then-value_word
 returns-then-value_word c =
-    record { result = (words_apart _ _ _ _ _ c.requires.sound.2 c.requires.sound.3 _ _ c.slot_length-size.ensures.result c.slot_length.ensures.result _
-    _ _ c.if-size-slot_length.false c.loop-i-test.true
-    c.value_word.ensures.result c.value_word-in-loop-i.ensures.result (search rules) (search rules) c.if-value_word.true) }
+    record {
+      result = (words_apart _ _ _ _ _ c.requires.sound.2 c.requires.sound.3 _ _ c.slot_length-size.ensures.result c.slot_length.ensures.result _
+          _ _ c.if-size-slot_length.false c.loop-i-test.true
+          c.value_word.ensures.result c.value_word-in-loop-i.ensures.result (search rules) (search rules) c.if-value_word.true);
+    }
 
 pub overflow_add-i : goal.overflow_add-i
 overflow_add-i c =
@@ -44,8 +48,7 @@ loop-i-smaller c =
     omega (arith, c.loop-i-test.true)
 
 pub loop-i-preserved : goal.loop-i-preserved
-loop-i-preserved c =
-    (
+loop-i-preserved c = (
   same_more _ _ _ _ _ _ _ _ c.loop-i.invariant.0 c.value_word.ensures.result c.value_word-in-loop-i.ensures.result c.if-value_word.false,
   omega
       (arith, c.loop-i-test.true),
@@ -53,5 +56,7 @@ loop-i-preserved c =
 
 pub returns : goal.returns
 returns c =
-    record { result = (words_alike _ _ _ _ _ c.requires.sound.2 c.requires.sound.3 _ _ c.slot_length-size.ensures.result c.slot_length.ensures.result _
-    c.if-size-slot_length.false c.loop-i-test.false c.loop-i.invariant.0) }
+    record {
+      result = (words_alike _ _ _ _ _ c.requires.sound.2 c.requires.sound.3 _ _ c.slot_length-size.ensures.result c.slot_length.ensures.result _
+          c.if-size-slot_length.false c.loop-i-test.false c.loop-i.invariant.0);
+    }

@@ -10,13 +10,12 @@ loop-i-init c =
     going_first _ _ _ _ _ _ _ _ _ refl refl
 
 pub cut_copy-cut-requires : goal.cut_copy-cut-requires
-cut_copy-cut-requires c =
-    (
-      c.requires.indexed.0,
-      going_copy _ _ _ _ _ _ _ _ _ _ _ _ _ c.loop-i.invariant c.requires.indexed.3,
-      going_fits _ _ _ _ _ _ _ _ _ _ _ _ _ c.loop-i.invariant
-          c.requires.indexed.4,
-    )
+cut_copy-cut-requires c = (
+  c.requires.indexed.0,
+  going_copy _ _ _ _ _ _ _ _ _ _ _ _ _ c.loop-i.invariant c.requires.indexed.3,
+  going_fits _ _ _ _ _ _ _ _ _ _ _ _ _ c.loop-i.invariant
+      c.requires.indexed.4,
+)
 
 pub have_one_map-x-requires : goal.have_one_map-x-requires
 have_one_map-x-requires c =

@@ -6,9 +6,11 @@ use Rattle.cut_counts_scratch_code.proofs.indexes.count_with_indexes.Goals as go
 
 pub returns-then-fault-ne0 : goal.returns-then-fault-ne0
 returns-then-fault-ne0 c =
-    record { result = (lent_refused _ _ _ _ _ _
-    (mapped_clear _ _ _ _ _ (mapped _ _ _ _ _ c.index_image-index.ensures.result _ c.in-Map.is)) _
-    c.arguments_fault-fault.ensures c.if-fault-ne0.true) }
+    record {
+      result = (lent_refused _ _ _ _ _ _
+          (mapped_clear _ _ _ _ _ (mapped _ _ _ _ _ c.index_image-index.ensures.result _ c.in-Map.is)) _
+          c.arguments_fault-fault.ensures c.if-fault-ne0.true);
+    }
 
 pub tally-t-requires : goal.tally-t-requires
 tally-t-requires c =
@@ -21,7 +23,9 @@ returns-in-Nothing c =
 
 pub returns-else-fault-ne0 : goal.returns-else-fault-ne0
 returns-else-fault-ne0 c =
-    record { result = (counted-all _ _ _ _ _ _
-    (mapped_clear _ _ _ _ _ (mapped _ _ _ _ _ c.index_image-index.ensures.result _ c.in-Map.is)) _
-    c.arguments_fault-fault.ensures c.if-fault-ne0.false _ _ _
-    c.tally-t.ensures.0 c.tally-t.ensures.1 c.tally-t.ensures.2) }
+    record {
+      result = (counted-all _ _ _ _ _ _
+          (mapped_clear _ _ _ _ _ (mapped _ _ _ _ _ c.index_image-index.ensures.result _ c.in-Map.is)) _
+          c.arguments_fault-fault.ensures c.if-fault-ne0.false _ _ _
+          c.tally-t.ensures.0 c.tally-t.ensures.1 c.tally-t.ensures.2);
+    }

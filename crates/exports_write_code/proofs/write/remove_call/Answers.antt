@@ -6,5 +6,7 @@ use Rattle.exports_write_code.proofs.write.remove_call.Goals as goal
 -- `exports_write_code::write::remove_call` meets its contract. Assumes nothing.
 pub returns : goal.returns
 returns c =
-    record { result = (rw (← c.state_from-before.ensures.result)
-    (change_called _ _ _ _ _ _ _ _ _ c.remove_in_layout-change.result _ c.remove_in_layout-change.ensures.result c.write_answer.ensures.result)) }
+    record {
+      result = (rw (← c.state_from-before.ensures.result)
+          (change_called _ _ _ _ _ _ _ _ _ c.remove_in_layout-change.result _ c.remove_in_layout-change.ensures.result c.write_answer.ensures.result));
+    }

@@ -6,5 +6,7 @@ use Rattle.exports_write_code.proofs.write.write_call.Goals as goal
 -- `exports_write_code::write::write_call` meets its contract. Assumes nothing.
 pub returns : goal.returns
 returns c =
-    record { result = (rw (← c.state_from-before.ensures.result)
-    (change_called _ _ _ _ _ _ _ _ _ c.write_in_layout-change.result _ c.write_in_layout-change.ensures.result c.write_answer.ensures.result)) }
+    record {
+      result = (rw (← c.state_from-before.ensures.result)
+          (change_called _ _ _ _ _ _ _ _ _ c.write_in_layout-change.result _ c.write_in_layout-change.ensures.result c.write_answer.ensures.result));
+    }

@@ -9,8 +9,7 @@ use Rattle.report_text_code.proofs.image.add_counts.Goals as goal
 -- `report_text_code::image::add_counts` meets its contract. Assumes nothing.
 pub returns : goal.returns
 unfolding totals_with count_values
-returns c =
-    (
+returns c = (
   refl,
   λ bound h.
       record {

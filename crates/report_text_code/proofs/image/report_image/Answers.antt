@@ -16,13 +16,17 @@ add_counts-requires c =
 
 pub returns-in-Counted : goal.returns-in-Counted
 returns-in-Counted c =
-    record { result = (image_counted _ _ _ _ _ _ c.requires.held c.requires.some_left _ _
-    (counted_answer _ _ _ refl (sym (front_length _ _ (entries_few _ _ _ _ _ c.requires))) _ _ c.in-Counted.is _ _
-    c.count_slots-answer.ensures.result) c.store_counts-end.ensures.result
-    c.add_counts.ensures.0 c.add_counts.ensures.1) }
+    record {
+      result = (image_counted _ _ _ _ _ _ c.requires.held c.requires.some_left _ _
+          (counted_answer _ _ _ refl (sym (front_length _ _ (entries_few _ _ _ _ _ c.requires))) _ _ c.in-Counted.is _ _
+          c.count_slots-answer.ensures.result) c.store_counts-end.ensures.result
+          c.add_counts.ensures.0 c.add_counts.ensures.1);
+    }
 
 pub returns-in-Refused : goal.returns-in-Refused
 returns-in-Refused c =
-    record { result = (image-refused _ _ _ _ _ _ c.requires.held c.requires.some_left _
-    (refused-answer _ _ _ refl (sym (front_length _ _ (entries_few _ _ _ _ _ c.requires))) _ _ _ c.in-Refused.is _ _
-    c.count_slots-answer.ensures.result) c.store_refusal-end.ensures.result) }
+    record {
+      result = (image-refused _ _ _ _ _ _ c.requires.held c.requires.some_left _
+          (refused-answer _ _ _ refl (sym (front_length _ _ (entries_few _ _ _ _ _ c.requires))) _ _ _ c.in-Refused.is _ _
+          c.count_slots-answer.ensures.result) c.store_refusal-end.ensures.result);
+    }

@@ -20,4 +20,7 @@ returns-then-room-size c =
 pub returns : goal.returns
 unfolding is_lent
 returns c =
-    record { result = (c.is_bounded.ensures.result ∙ sym (pick_false _ _ _ (le-ltb _ _ c.if-size-have.false) ∙ pick_false _ _ _ (le-ltb _ _ c.if-room-size.false))) }
+    record {
+      result =
+          (c.is_bounded.ensures.result ∙ sym (pick_false _ _ _ (le-ltb _ _ c.if-size-have.false) ∙ pick_false _ _ _ (le-ltb _ _ c.if-room-size.false)));
+    }

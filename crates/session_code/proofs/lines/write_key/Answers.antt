@@ -17,11 +17,13 @@ shape_of-next-in-At c =
 pub returns-in-At : goal.returns-in-At
 unfolding word_bytes mode_by locate_says
 returns-in-At c =
-    record { result = (rw (
-      ← (ap (λ (x : ReadOnlyResult). x.answer) c.locate-answer.ensures.result),
-      c.in-At.is,
-      ← c.write_word.ensures.result,
-    ) (c.replace.ensures.result)) }
+    record {
+      result = (rw (
+        ← (ap (λ (x : ReadOnlyResult). x.answer) c.locate-answer.ensures.result),
+        c.in-At.is,
+        ← c.write_word.ensures.result,
+      ) (c.replace.ensures.result));
+    }
 
 pub shape_of-heads-in-Absent : goal.shape_of-heads-in-Absent
 shape_of-heads-in-Absent c =
@@ -34,11 +36,13 @@ shape_of-next-in-Absent c =
 pub returns-in-Absent : goal.returns-in-Absent
 unfolding word_bytes mode_by locate_says
 returns-in-Absent c =
-    record { result = (rw (
-      ← (ap (λ (x : ReadOnlyResult). x.answer) c.locate-answer.ensures.result),
-      c.in-Absent.is,
-      ← c.write_word.ensures.result,
-    ) (c.insert.ensures.result)) }
+    record {
+      result = (rw (
+        ← (ap (λ (x : ReadOnlyResult). x.answer) c.locate-answer.ensures.result),
+        c.in-Absent.is,
+        ← c.write_word.ensures.result,
+      ) (c.insert.ensures.result));
+    }
 
 pub shape_of-heads-in-Refused : goal.shape_of-heads-in-Refused
 shape_of-heads-in-Refused c =
@@ -51,8 +55,10 @@ shape_of-next-in-Refused c =
 pub returns-in-Refused : goal.returns-in-Refused
 unfolding word_bytes mode_by locate_says
 returns-in-Refused c =
-    record { result = (rw (
-      ← (ap (λ (x : ReadOnlyResult). x.answer) c.locate-answer.ensures.result),
-      c.in-Refused.is,
-      ← c.write_word.ensures.result,
-    ) (c.insert-in-Refused.ensures.result)) }
+    record {
+      result = (rw (
+        ← (ap (λ (x : ReadOnlyResult). x.answer) c.locate-answer.ensures.result),
+        c.in-Refused.is,
+        ← c.write_word.ensures.result,
+      ) (c.insert-in-Refused.ensures.result));
+    }

@@ -21,5 +21,7 @@ render-at-requires c =
 pub returns : goal.returns
 unfolding answer_result answered_by printed_by
 returns c =
-    record { stream = (rw
-    (← c.finish.ensures.result, ← c.step-stepped.ensures.result, ← c.render-at.ensures.result)) }
+    record {
+      stream = (rw
+          (← c.finish.ensures.result, ← c.step-stepped.ensures.result, ← c.render-at.ensures.result));
+    }

@@ -38,9 +38,9 @@ overflow_add-removes c =
 pub loop-i-preserved : goal.loop-i-preserved
 loop-i-preserved c =
     elim c.if-slot_kind-eq2.branch [
-      then-slot_kind-eq2 w ↦
+      | then-slot_kind-eq2 w ↦
           removing_more _ _ _ c.requires _ c.loop-i-test.true _ _ c.loop-i.invariant c.slot_kind.ensures.result _ w.if-slot_kind-eq2.true w.removes-is
-    | else-slot_kind-eq2 w ↦
+      | else-slot_kind-eq2 w ↦
           removing_same _ _ _ c.requires _ c.loop-i-test.true _ _ c.loop-i.invariant c.slot_kind.ensures.result _ w.if-slot_kind-eq2.false w.removes-is
     ]
 

@@ -8,5 +8,7 @@ use Rattle.trace_line_code.proofs.line.trace_change.Goals as goal
 pub returns : goal.returns
 unfolding change_counts
 returns c =
-    record { step = (answer_printed _ _ _ _ _ _ _ _ c.carry_change-stepped.ensures.result
-    c.try_change-reply.ensures.counts) }
+    record {
+      step = (answer_printed _ _ _ _ _ _ _ _ c.carry_change-stepped.ensures.result
+          c.try_change-reply.ensures.counts);
+    }

@@ -65,6 +65,8 @@ slice_bounds-trace_line-end-10 c =
 
 pub returns : goal.returns
 returns c =
-    record { step = (trace_done _ _ c.without_cut-asked.ensures.line _ _ _ _ _ _ _ c.line_fault-fault.ensures.result
-    c.if-fault-ne0.false _ c.slots_for.ensures.result _ _
-    (front_room _ _ _ c.lesser-room.ensures.result) (front_room _ _ _ c.lesser-bound.ensures.result) _ _ _ _ _ c.trace_line.ensures.step) }
+    record {
+      step = (trace_done _ _ c.without_cut-asked.ensures.line _ _ _ _ _ _ _ c.line_fault-fault.ensures.result
+          c.if-fault-ne0.false _ c.slots_for.ensures.result _ _
+          (front_room _ _ _ c.lesser-room.ensures.result) (front_room _ _ _ c.lesser-bound.ensures.result) _ _ _ _ _ c.trace_line.ensures.step);
+    }
