@@ -1,0 +1,9 @@
+-- Answers of `book_change_code::layouts::acknowledge_in_layout`.
+use borrow.Author.Rules.{rules}
+use Rattle.book.proofs.Courses.{acknowledge-result}
+use Rattle.book_change_code.proofs.layouts.acknowledge_in_layout.Goals as goal
+
+-- `book_change_code::layouts::acknowledge_in_layout` meets its contract. Assumes nothing.
+pub returns : goal.returns
+returns c =
+    record { result = (acknowledge-result _ _ _ _ _ _ _ _ c.carry_out_plan.ensures.result c.acknowledge_plan-plan.ensures.plan) }
