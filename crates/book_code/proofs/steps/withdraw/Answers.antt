@@ -1,0 +1,9 @@
+-- Answers of `book_code::steps::withdraw`.
+use borrow.Author.Rules.{rules}
+use Rattle.interface.proofs.SetLaws.{key_alone}
+use Rattle.book_code.proofs.steps.withdraw.Goals as goal
+
+-- `book_code::steps::withdraw` meets its contract. Assumes nothing.
+pub returns : goal.returns
+returns c =
+    record { result = rw (← key_alone c.args.key) (search rules) }

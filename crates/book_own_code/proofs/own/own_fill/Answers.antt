@@ -1,0 +1,9 @@
+-- Answers of `book_own_code::own::own_fill`.
+use borrow.Author.Rules.{rules}
+use Rattle.interface.proofs.SetLaws.{key_alone}
+use Rattle.book_own_code.proofs.own.own_fill.Goals as goal
+
+-- `book_own_code::own::own_fill` meets its contract. Assumes nothing.
+pub returns : goal.returns
+returns c =
+    record { result = (simp key_alone at c.fill_in_layout.ensures.result) }

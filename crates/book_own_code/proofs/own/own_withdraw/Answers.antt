@@ -1,0 +1,9 @@
+-- Answers of `book_own_code::own::own_withdraw`.
+use borrow.Author.Rules.{rules}
+use Rattle.interface.proofs.SetLaws.{key_alone}
+use Rattle.book_own_code.proofs.own.own_withdraw.Goals as goal
+
+-- `book_own_code::own::own_withdraw` meets its contract. Assumes nothing.
+pub returns : goal.returns
+returns c =
+    record { result = rw (← key_alone c.args.key) (search rules) }
