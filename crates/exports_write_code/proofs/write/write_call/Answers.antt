@@ -1,0 +1,10 @@
+-- Answers of `exports_write_code::write::write_call`.
+use borrow.Author.Rules.{rules}
+use Rattle.exports.proofs.Calls.{change_called}
+use Rattle.exports_write_code.proofs.write.write_call.Goals as goal
+
+-- `exports_write_code::write::write_call` meets its contract. Assumes nothing.
+pub returns : goal.returns
+returns c =
+    record { result = (rw (← c.state_from-before.ensures.result)
+    (change_called _ _ _ _ _ _ _ _ _ c.write_in_layout-change.result _ c.write_in_layout-change.ensures.result c.write_answer.ensures.result)) }
