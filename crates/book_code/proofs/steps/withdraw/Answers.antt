@@ -6,4 +6,4 @@ use Rattle.book_code.proofs.steps.withdraw.Goals as goal
 -- `book_code::steps::withdraw` meets its contract. Assumes nothing.
 pub returns : goal.returns
 returns c =
-    record { result = (simp key_alone at c.withdraw_in_layout.ensures.result) }
+    record { result = rw (← key_alone c.args.key) (search rules) }

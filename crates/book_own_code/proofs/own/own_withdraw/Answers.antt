@@ -6,4 +6,4 @@ use Rattle.book_own_code.proofs.own.own_withdraw.Goals as goal
 -- `book_own_code::own::own_withdraw` meets its contract. Assumes nothing.
 pub returns : goal.returns
 returns c =
-    record { result = (simp key_alone at c.withdraw_in_layout.ensures.result) }
+    record { result = rw (← key_alone c.args.key) (search rules) }
