@@ -11,6 +11,7 @@ use layout_line_code::line::version_fault;
 
 // Do the state and a few slots of the reuse chain tell that a call that takes one slot is not refused? This is the usual
 // case, and small, so that the compiler makes it part of each call; own tells whether it is for the owner of its index.
+// For any other index it tells nothing: what such a call looks ahead along the chain is in the budget of store_fault.
 pub fn is_accepted(
     image: &[u8],
     l: usize,
@@ -35,6 +36,9 @@ pub fn is_accepted(
         return false;
     }
     if version_fault(state.version) != 0 {
+        return false;
+    }
+    if !own {
         return false;
     }
     is_open_by(own, image, l, next, n, state.first, state.newest)

@@ -22,6 +22,10 @@ pub returns-then-version_fault-ne0 : goal.returns-then-version_fault-ne0
 returns-then-version_fault-ne0 c =
     record { result = (λ e. absurd (true≢false (sym e))) }
 
+pub returns-then-not-own : goal.returns-then-not-own
+returns-then-not-own c =
+    record { result = (λ e. absurd (true≢false (sym e))) }
+
 pub is_open_by-requires : goal.is_open_by-requires
 is_open_by-requires c =
     let ends = reusable _ _ _ (sym c.ends_fault.ensures.result ∙ c.if-ends_fault-ne0.false) in
