@@ -5,15 +5,14 @@ usage: tools/port_proofs.py ROOT CRATE NAMES.json OLD
 
 ROOT is the top of the repository, CRATE a crate with functions. Each proofs/F/Proof.antt of it that walks the code (it
 cites the kit's walk of F) becomes proofs/F/Invariants.antt (loops and measures) and proofs/F/Answers.antt (a clause for
-each goal that was answered by more than `search rules`), beside it; the walk itself is moved to OLD/CRATE/proofs/F. What
-the script cannot read it leaves as it was, with a line that says so.
+each goal that was answered by more than `search rules`), beside it; the walk itself is moved to
+OLD/CRATE/proofs/F.
 
 NAMES.json has, for each function, the places and goals of the walk under their old names and under those of today's
-Rattle; `rt check --generated DIR --old-names`, run in the crate's folder, writes it as DIR/names.json. A definition of the
-walk that no goal names is dropped, a definition that several goals share stays as an abbrev, and a way from a place to an
-earlier one (a chain of `.before`) is written again by today's names. The result is read by `rt check`, which says what is
-left to do: some files were mended by hand after it. This is the script as it was used for the port (docs/PORT.md), kept
-so that the change can be made again.
+Rattle; `rt check --generated DIR --old-names`, run in the crate's folder, writes it as DIR/names.json. A chain of
+`.before` is written again by today's names; lemmas of the walk's file go along. Each line that it prints names what it
+could not turn. The result is read by `rt check`, which says what is left to do: some files were mended by hand after it.
+The script grew while crates were turned (docs/PORT.md); this is its last state.
 """
 import json,os,re,sys
 if len(sys.argv) != 5:
@@ -107,7 +106,7 @@ class Fn:
         s.norm={norm(k):k for k in s.places}
         s.idx={p[0]:i for i,p in enumerate(d['places'])}
         s.macros={}
-        s.bad=[]; s.whole=False; s.nots=False
+        s.bad=[]; s.own=None; s.whole=False; s.nots=False
     def parent(s,p): return s.places[p][1] if p in s.places else None
     def up(s,p,n):
         for _ in range(n):
@@ -146,6 +145,7 @@ class Fn:
         fields=[x]+rest
         if x=='good': x='well_formed'; fields=[x]+rest
         if x=='pre': fields=['requires']+rest; x='requires'
+        if x=='requires' and s.own and (not rest or rest[0].isdigit()): fields=['requires',s.own]+rest
         if x in ('args','ranges','requires','lifetimes','well_formed','type_inv','utf8'):
             return ['c']+fields
         q=None
@@ -281,6 +281,12 @@ def wrap(labels,body):
 
 def one(path,key):
     d=D[key]; f=Fn(d)
+    fname=os.path.basename(os.path.dirname(path))
+    for r_,_,fs_ in os.walk(f'{B}/src'):
+        for z in fs_:
+            if z.endswith('.rt'):
+                m_=re.search(rf'fn {re.escape(fname)}\b[^{{]*?requires ([a-z_]+) \{{',open(f'{r_}/{z}').read())
+                if m_: f.own=m_.group(1)
     text=open(path).read()
     uses,items=split_items(text)
     by={it['name']:it for it in items}
