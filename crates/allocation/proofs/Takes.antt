@@ -17,8 +17,8 @@ use Rattle.table.specs.Takeable.{highest_valid, is_remove, older, may_take, may_
 use Rattle.table.proofs.TakeableAfter.{may_after}
 use Rattle.allocation.specs.Allocation.{allocation_by_rule, allocation_chosen}
 use Rattle.allocation.specs.inner.Walk.{take_fault, walk_fault}
-use Rattle.allocation.specs.inner.Takeable.{slot_version, takeable, low_put}
-use Rattle.allocation.proofs.Walks.{walk-fault, still_fine}
+use Rattle.allocation.specs.inner.Takeable.{slot_version, takeable, low_put, OpenFirst}
+use Rattle.allocation.proofs.Walks.{walk-fault, walk_taken, end_good, still_fine}
 use Rattle.allocation.proofs.Contents.{slot_holds, held_version}
 use Rattle.allocation.proofs.Tested.{may_low}
 
@@ -99,3 +99,10 @@ module _ (l : ℕ) (image next : List ℕ) (n first : ℕ) where
         still_fine (may_take (contents_of l image) n) (may_take_after (contents_of l image) n) next n (may_after (contents_of l image) n) n n wanted wanted 0
         first []
         (λ t i. absurd i) (omega arith) some (omega arith) (walked wanted some ∙ z)
+
+  -- the first slot may be taken, by a version that is none above the highest
+  pub taken-first : (top : ℕ) → top ≤ greatest (slot_version (word image)) n → 2 ≤ n → OpenFirst l (word image) next n top first
+      → 0 ≡ take_fault (allocation_by_rule l image next n first 1)
+  taken-first top h some o =
+      taken_low 1 (omega arith) top n 0 h (omega arith)
+      (sym (walk_taken (low_put l (word image) top) next n n 1 first (omega arith) o.low o.high o.put refl ∙ end_good n (n - 1) _ (omega arith) o.link)) refl

@@ -5,7 +5,7 @@ ghost use Rattle.prelude.specs.Range.{greatest};
 ghost use Rattle.layout.specs.Content.{contents_of};
 ghost use Rattle.allocation.specs.Allocation.{allocation_by_rule, named_version, own_allocation, allocation_by};
 ghost use Rattle.allocation.specs.inner.Walk.{take_fault, end_fault, walk_fault, ends_well};
-ghost use Rattle.allocation.specs.inner.Takeable.{slot_version, takeable, Walkable};
+ghost use Rattle.allocation.specs.inner.Takeable.{slot_version, takeable, OpenFirst, Walkable};
 ghost use Rattle.allocation.specs.inner.Choice.{Unrefused, ToldBy};
 
 use crate::choose::choose_below;
@@ -96,29 +96,22 @@ pub fn newest_version(image: &[u8], n: usize, newest: u32) -> u64
     valid_version(image, s)
 }
 
-// Is one of a few slots ahead, by its line A, below this version and no remove record, with a link that a chain has?
-// Mostly the first one is.
+// May the chain's first slot be taken, below this version by its line A, with a link that a chain has?
 fn is_open(image: &[u8], l: usize, next: &[u32], n: usize, first: u32, known: u64) -> bool
-    requires { Walkable image.now next.now l n × (known ≤ greatest (slot_version (word image.now)) n) }
-    ensures { result ≡ true → take_fault (allocation_by_rule l image.now next.now n first 1) ≡ 0 }
+    requires { Walkable image.now next.now l n }
+    ensures { result ≡ true → OpenFirst l (word image.now) next.now n known first }
 {
-    let mut at = first;
-    let mut left = few_of(n);
-    while 0 < left {
-        if at == 0 {
-            return false;
-        }
-        let slot = at as usize;
-        if n < slot {
-            return false;
-        }
-        left -= 1;
-        at = next[slot];
-        if is_low(image, l, slot, known) {
-            return end_fault(n, left, at) == 0;
-        }
+    let s = first as usize;
+    if s == 0 {
+        return false;
     }
-    false
+    if n < s {
+        return false;
+    }
+    if n < next[s] as usize {
+        return false;
+    }
+    is_low(image, l, s, known)
 }
 
 // What a step along the chain costs: 1 to a slot nearby, which the processor has at hand, 16 to any other.
@@ -278,6 +271,9 @@ fn take_fault(image: &[u8], l: usize, next: &[u32], n: usize, first: u32, newest
     ensures { result ≡ take_fault (allocation_by_rule l image.now next.now n first 1) }
 {
     let known = newest_version(image, n, newest);
+    if is_open(image, l, next, n, first, known) {
+        return 0;
+    }
     let told = slots_told(image, l, next, n, first, 1, known, false);
     told.fault
 }
@@ -295,34 +291,15 @@ pub fn named_version(image: &[u8], n: usize, newest: u32) -> u64
 }
 
 // Does line A of the first slot of the chain tell that it may be taken by a call for the owner of its index?
-fn is_own_open(image: &[u8], l: usize, next: &[u32], n: usize, first: u32, newest: u32) -> bool
+pub fn is_own_open(image: &[u8], l: usize, next: &[u32], n: usize, first: u32, newest: u32) -> bool
     requires { Walkable image.now next.now l n × (0 < first) × (first ≤ n) }
-    ensures { result ≡ true → take_fault (own_allocation l image.now next.now n first newest 1) ≡ 0 }
+    ensures result { result ≡ true → take_fault (own_allocation l image.now next.now n first newest 1) ≡ 0 }
 {
     let t = first as usize;
     if next[t] as usize <= n {
         return read_word(image, 16 * t + 7) / 2 < named_version(image, n, newest);
     }
     false
-}
-
-// Do a few slots tell that a call of either family that wants one slot has one?
-pub fn is_open_by(
-    own: bool,
-    image: &[u8],
-    l: usize,
-    next: &[u32],
-    n: usize,
-    first: u32,
-    newest: u32,
-) -> bool
-    requires { Walkable image.now next.now l n × (0 < first) × (first ≤ n) }
-    ensures result { result ≡ true → take_fault (allocation_by own l image.now next.now n first newest 1) ≡ 0 }
-{
-    if own {
-        return is_own_open(image, l, next, n, first, newest);
-    }
-    is_open(image, l, next, n, first, newest_version(image, n, newest))
 }
 
 // 11 or 28 by the slot of a call for the owner of its index that wants one, else 0.

@@ -4,14 +4,14 @@ ghost use Rattle.allocation.specs.Allocation.{allocation_by};
 ghost use Rattle.allocation.specs.inner.Takeable.{Walkable};
 ghost use Rattle.calls.specs.Change.{store_fault};
 
-use allocation_code::take::{full_fault, is_open_by, take_fault_by};
+use allocation_code::take::{full_fault, is_own_open, take_fault_by};
 use index::State;
 use index_read_code::fault::{ends_fault, live_fault};
 use layout_line_code::line::version_fault;
 
-// Do the state and a few slots of the reuse chain tell that a call that takes one slot is not refused? This is the usual
-// case, and small, so that the compiler makes it part of each call; own tells whether it is for the owner of its index.
-// For any other index it tells nothing: what such a call looks ahead along the chain is in the budget of store_fault.
+// Do the state and the first slot of the reuse chain tell that a call that takes one slot is not refused? This is the
+// usual case, and small, so that the compiler makes it part of each call; own tells whether it is for the owner of its
+// index. For any other index it tells nothing, and store_fault decides.
 pub fn is_accepted(
     image: &[u8],
     l: usize,
@@ -38,10 +38,10 @@ pub fn is_accepted(
     if version_fault(state.version) != 0 {
         return false;
     }
-    if !own {
-        return false;
+    if own {
+        return is_own_open(image, l, next, n, state.first, state.newest);
     }
-    is_open_by(own, image, l, next, n, state.first, state.newest)
+    false
 }
 
 // 11 (reuse, or fewer live than are removed), 28 or 9 for a call that takes one slot, else 0. Several functions call it,

@@ -2,7 +2,6 @@
 use mathlib.Core.Path.{sym}
 use mathlib.Core.Bool.{true≢false}
 use native.Mathlib.Omega.{arith}
-use borrow.Author.Rules.{rules}
 use borrow.Author.Tests.{ltb-true}
 use Rattle.allocation.proofs.Own.{own_first}
 use Rattle.allocation_code.proofs.take.is_own_open.Goals as goal
@@ -14,11 +13,13 @@ overflow_cast-next c =
 
 pub returns-then-next-t : goal.returns-then-next-t
 returns-then-next-t c =
-    λ e.
-    sym
-    (own_first _ _ _ _ _ _ _ c.named_version.ensures.result c.requires.0.some c.requires.1 c.requires.2 c.if-next-t.true _
-    c.read_word.ensures.result (ltb-true _ _ e))
+    record {
+      result = (λ e.
+          sym
+          (own_first _ _ _ _ _ _ _ c.named_version.ensures.result c.requires.0.some c.requires.1 c.requires.2 c.if-next-t.true _
+          c.read_word.ensures.result (ltb-true _ _ e)));
+    }
 
 pub returns : goal.returns
 returns c =
-    λ e. absurd (true≢false (sym e))
+    record { result = (λ e. absurd (true≢false (sym e))) }

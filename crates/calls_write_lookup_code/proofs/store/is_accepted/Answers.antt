@@ -2,6 +2,7 @@
 use mathlib.Core.Path.{refl, sym, ◌∙◌}
 use mathlib.Core.Bool.{true≢false}
 use borrow.Author.Rules.{rules}
+use Rattle.allocation.specs.Allocation.{allocation_by}
 use Rattle.index.proofs.Faults.{reusable}
 use Rattle.calls.proofs.Lookups.{store_version}
 use Rattle.calls_write_lookup_code.proofs.store.is_accepted.Goals as goal
@@ -22,22 +23,24 @@ pub returns-then-version_fault-ne0 : goal.returns-then-version_fault-ne0
 returns-then-version_fault-ne0 c =
     record { result = (λ e. absurd (true≢false (sym e))) }
 
-pub returns-then-not-own : goal.returns-then-not-own
-returns-then-not-own c =
-    record { result = (λ e. absurd (true≢false (sym e))) }
-
-pub is_open_by-requires : goal.is_open_by-requires
-is_open_by-requires c =
+pub is_own_open-requires : goal.is_own_open-requires
+is_own_open-requires c =
     let ends = reusable _ _ _ (sym c.ends_fault.ensures.result ∙ c.if-ends_fault-ne0.false) in
     (c.requires, ends.first_low, ends.first_high)
 
-pub returns : goal.returns
-returns c =
+pub returns-then-own : goal.returns-then-own
+unfolding allocation_by
+returns-then-own c =
     record {
       result = (λ e.
-          sym
+          rw c.if-own.true
+          (sym
           (store_version _ _ c.args.state _ _ _ c.ends_fault.ensures.result c.if-ends_fault-ne0.false c.if-state-removes.false _
-          (sym (c.is_open_by.ensures.result e)) refl _ c.live_fault.ensures.result c.if-live_fault-ne0.false _
+          (sym (c.is_own_open.ensures.result e)) refl _ c.live_fault.ensures.result c.if-live_fault-ne0.false _
           c.version_fault.ensures.result)
-          ∙ c.if-version_fault-ne0.false);
+          ∙ c.if-version_fault-ne0.false));
     }
+
+pub returns : goal.returns
+returns c =
+    record { result = (λ e. absurd (true≢false (sym e))) }
