@@ -24,7 +24,7 @@ use Rattle.table.specs.Table.{is_held, next_version}
 use Rattle.table.specs.Complete.{table_of, NoneVoid}
 use Rattle.table.specs.Takeable.{may_take, taken_of}
 use Rattle.table.proofs.Alike.{alike_highest_last}
-use Rattle.table.proofs.ReuseOrder.{single_first}
+use Rattle.table.proofs.ReuseOrder.{single_first_of_list}
 use Rattle.index.specs.Index.{Index, Chain, reuse, head, head_of}
 use Rattle.index.specs.Walk.{search}
 use Rattle.index.specs.Change.{take_first, inserts_of, key_fault, is_found}
@@ -173,7 +173,7 @@ module _ (l : ℕ) (lay : Layout l) (w : World) (chains : Chain → List ℕ) (a
         let last = alike_highest_last (table_of l w.image) f n (λ t j. sym (same_slots l w chains g none_void t j)) (chains reuse)
         (spares l w chains g none_void).slot g.highest in
         let may : may_take f n s ≡ true =
-        single_first f n s reuse_is.0 (rw reuse_is.1 at (spares l w chains g none_void)) (rw reuse_is.1 at (older l w chains g none_void))
+        single_first_of_list f n s reuse_is.0 (rw reuse_is.1 at (spares l w chains g none_void)) (rw reuse_is.1 at (older l w chains g none_void))
         (rw reuse_is.1 at last) (rw reuse_is.1 at some) in
         rw (reuse_is.1, may) refl
 
