@@ -9,12 +9,13 @@ use lib.Dec.{eqb}
 use lib.ListN.{length, get_or}
 use borrow.Author.Tests.{eq-eqb, ne_eqb}
 use Rattle.index.specs.Index.{Chain, reuse, head, Index, start, ahead, set_next, set_start, set_last, link}
+use Rattle.index.specs.inner.Parts.{insert_new, replace_held, remove_held}
 use Rattle.index.specs.Change.{take_first, append, link_new, insert_at, replace_at, remove_at}
 use Rattle.prelude.specs.Members.{In}
 use Rattle.index.specs.Linked.{Run, end_of, Owner, free, of, Entry, Disjoint, WellFormed}
 use Rattle.index.proofs.defs.Linked.{give, with_chain, Room}
 use Rattle.prelude.proofs.Paths.{end_snoc, mid_in, run_after}
-use Rattle.index.proofs.Owners.{free_of, reuse_apart, give_same, give_other, give_twice, give_swap, with_same, with_other, with_twice}
+use Rattle.index.proofs.Owners.{free_of, reuse_apart, give_same, give_other, give_twice, give_swap, give_idle, with_same, with_other, with_twice}
 use Rattle.index.proofs.Owners.{with_swap}
 use Rattle.index.proofs.Links.{set_here, set_else, set_heads, set-last, ahead-next, link_size, set_size, link-heads, link-last, slot_size, room_size}
 use Rattle.index.proofs.Relinks.{disjoint_set, disjoint_last, disjoint_unlink, disjoint_insert, disjoint_replace}
@@ -55,6 +56,22 @@ first_ends i owner chains f rest g e =
     let r : Run (ahead i reuse) (ahead i reuse 0) (f ∷ rest) 0 = rw e at (w.runs reuse) in
     take_ends (get_or i.next i.state.first 0) i.state.last f (ahead i reuse) rest (rw n at r.1)
     (λ y m. (w.slot reuse y (w.owned.mine reuse y (rw e (inr m)))).low) (rw e at g.ends)
+
+pub formed_take : (i : Index) (owner : ℕ → Owner) (chains : Chain → List ℕ) (f : ℕ) (rest : List ℕ) → WellFormed i owner chains
+    → chains reuse ≡ f ∷ rest
+    → WellFormed (take_first i) (give owner f free) (with_chain chains reuse rest)
+unfolding take_first set_last link
+formed_take i owner chains f rest g e =
+    let w = g.disjoint in
+    let d : i.state.first ≡ f = first_is _ _ _ _ _ w e in
+    let s : Entry i f = slot_of _ _ _ reuse [] f rest w e in
+    let n : ahead i reuse f ≡ get_or i.next i.state.first 0 = ahead-next i reuse f s.low ∙ ap (λ (x : ℕ). get_or i.next x 0) (sym d) in
+    record {
+      disjoint =
+          disjoint_last _ _ _ _
+          (rw n at (disjoint_unlink _ _ _ reuse [] f rest w e));
+      ends = rw with_same (first_ends i owner chains f rest g e);
+    }
 
 -- a slot that nobody has, at the end of a chain
 disjoint_end : (i : Index) (owner : ℕ → Owner) (chains : Chain → List ℕ) (c : Chain) (s prev : ℕ) → Disjoint i owner chains → Room i c
@@ -129,6 +146,10 @@ formed_unlink i owner chains h xs old ys prev g e p =
 
 -- ---- what a call writes
 
+pub take_next : (i : Index) → length (take_first i).next ≡ length i.next
+unfolding take_first set_last set_start
+take_next i = refl
+
 pub take_heads : (i : Index) → length (take_first i).heads ≡ length i.heads
 unfolding take_first set_last set_start
 take_heads i = refl
@@ -172,6 +193,33 @@ remove_at_next i h prev old s = simp (append-next, link_size)
 pub remove_at_heads : (i : Index) (h prev old s : ℕ) → length (remove_at i h prev old s).heads ≡ length i.heads
 unfolding remove_at
 remove_at_heads i h prev old s = simp (append-heads, link-heads)
+
+pub new_next : (i : Index) (h prev : ℕ) → length (insert_new i h prev).next ≡ length i.next
+unfolding insert_new
+new_next i h prev = insert_at_next _ _ _ _ ∙ take_next i
+
+pub new_heads : (i : Index) (h prev : ℕ) → length (insert_new i h prev).heads ≡ length i.heads
+unfolding insert_new
+new_heads i h prev = insert_at_heads _ _ _ _ ∙ take_heads i
+
+pub held_next : (i : Index) (h prev old : ℕ) → length (replace_held i h prev old).next ≡ length i.next
+unfolding replace_held
+held_next i h prev old = replace_at_next _ _ _ _ _ ∙ take_next i
+
+pub held_heads : (i : Index) (h prev old : ℕ) → length (replace_held i h prev old).heads ≡ length i.heads
+unfolding replace_held
+held_heads i h prev old = replace_at_heads _ _ _ _ _ ∙ take_heads i
+
+pub remove_next : (i : Index) (h prev old : ℕ) → length (remove_held i h prev old).next ≡ length i.next
+unfolding remove_held
+remove_next i h prev old = remove_at_next _ _ _ _ _ ∙ take_next i
+
+pub remove_heads : (i : Index) (h prev old : ℕ) → length (remove_held i h prev old).heads ≡ length i.heads
+unfolding remove_held
+remove_heads i h prev old = remove_at_heads _ _ _ _ _ ∙ take_heads i
+
+pub formed_at : (i j : Index) (o : ℕ → Owner) (c : Chain → List ℕ) → i ≡ j → WellFormed i o c → WellFormed j o c
+formed_at i j o c e g = rw (← e) g
 
 pub formed_alike : (i : Index) (o p : ℕ → Owner) (c d : Chain → List ℕ) → o ≡ p → c ≡ d → WellFormed i o c → WellFormed i p d
 formed_alike i o p c d e f g = rw (← e, ← f) g
@@ -233,3 +281,65 @@ module _
         ∙ ap (λ (l : List ℕ). with_chain c reuse l) (append_assoc (chains reuse) (old ∷ []) (s ∷ []))
         ∙ with_swap chains (head h) reuse (xs ++ ys) (chains reuse ++ old ∷ s ∷ []) (λ q. reuse_apart h (sym q)))
         (formed_append (append k old) _ _ s g₃ (slot_size i (append k old) s (append-next k old ∙ z) t) b)
+
+-- ---- the changes with the first reuse slot, f
+
+module _
+    (i : Index) (owner : ℕ → Owner) (chains : Chain → List ℕ) (h prev f : ℕ) (rest : List ℕ) (g : WellFormed i owner chains)
+    (e : chains reuse ≡ f ∷ rest) where
+  took : WellFormed (take_first i) (give owner f free) (with_chain chains reuse rest)
+  took = formed_take _ _ _ _ _ g e
+
+  first : i.state.first ≡ f
+  first = first_is _ _ _ _ _ g.disjoint e
+
+  spare : Entry (take_first i) f
+  spare = slot_size i (take_first i) f (take_next i) (slot_of _ _ _ reuse [] f rest g.disjoint e)
+
+  none : give owner f free f ≡ free
+  none = give_same owner f free f refl
+
+  kept : with_chain chains reuse rest (head h) ≡ chains (head h)
+  kept = with_other chains reuse rest (head h) (λ d. reuse_apart h (sym d))
+
+  -- what is appended to reuse comes after the rest
+  rest_then : (new : List ℕ) (zs : List ℕ)
+      → with_chain (with_chain (with_chain chains reuse rest) reuse (with_chain chains reuse rest reuse ++ new)) (head h) zs
+      ≡ with_chain (with_chain chains reuse (rest ++ new)) (head h) zs
+  rest_then new zs =
+      ap (λ (l : List ℕ). with_chain (with_chain (with_chain chains reuse rest) reuse (l ++ new)) (head h) zs) (with_same chains reuse rest)
+      ∙ ap (λ (c : Chain → List ℕ). with_chain c (head h) zs) (with_twice chains reuse rest (rest ++ new))
+
+  -- an insert
+  pub formed_new : h < length i.heads → prev ≡ end_of 0 (chains (head h))
+      → WellFormed (insert_new i h prev) (give owner f (of (head h))) (with_chain (with_chain chains reuse rest) (head h) (chains (head h) ++ f ∷ []))
+  unfolding insert_new
+  formed_new a p =
+      formed_at _ _ _ _ (ap (λ (x : ℕ). insert_at (take_first i) h prev x) (sym first))
+      (formed_alike (insert_at (take_first i) h prev f) _ _ _ _ (give_twice owner f free (of (head h)))
+      (ap (λ (l : List ℕ). with_chain (with_chain chains reuse rest) (head h) (l ++ f ∷ [])) kept)
+      (formed_insert_at _ _ _ h prev f took spare none (rw take_heads a) (rw kept p)))
+
+  module _ (xs : List ℕ) (old : ℕ) (ys : List ℕ) (d : chains (head h) ≡ xs ++ old ∷ ys) (p : prev ≡ end_of 0 xs) where
+    -- a replace
+    pub formed_held : WellFormed (replace_held i h prev old) (give (give owner f (of (head h))) old (of reuse))
+        (with_chain (with_chain chains reuse (rest ++ old ∷ [])) (head h) (xs ++ f ∷ ys))
+    unfolding replace_held
+    formed_held =
+        formed_at _ _ _ _ (ap (λ (x : ℕ). replace_at (take_first i) h prev old x) (sym first))
+        (formed_alike (replace_at (take_first i) h prev old f) _ _ _ _
+        (ap (λ (z : ℕ → Owner). give z old (of reuse)) (give_twice owner f free (of (head h))))
+        (rest_then (old ∷ []) (xs ++ f ∷ ys))
+        (formed_replace_at _ _ _ h prev f took spare none xs old ys (kept ∙ d) p))
+
+    -- a remove
+    pub formed_remove : WellFormed (remove_held i h prev old) (give owner old (of reuse))
+        (with_chain (with_chain chains reuse (rest ++ old ∷ f ∷ [])) (head h) (xs ++ ys))
+    unfolding remove_held
+    formed_remove =
+        formed_at _ _ _ _ (ap (λ (x : ℕ). remove_at (take_first i) h prev old x) (sym first))
+        (formed_alike (remove_at (take_first i) h prev old f) _ _ _ _
+        (ap (λ (z : ℕ → Owner). give z old (of reuse))
+        (give_twice owner f free (of reuse) ∙ give_idle owner f (of reuse) (owner-of _ _ _ reuse [] f rest g.disjoint e)))
+        (rest_then (old ∷ f ∷ []) (xs ++ ys))
+        (formed_remove_at _ _ _ h prev f took spare none xs old ys (kept ∙ d) p))

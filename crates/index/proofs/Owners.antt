@@ -203,3 +203,10 @@ give_swap owner s t o p n = fun_ext (λ x. go x (told x s) (told x t))
     go x (isnt a m) (isnt b g) =
         give_other (give owner s o) t p x g ∙ give_other owner s o x m ∙ sym
         (give_other (give owner t p) s o x m ∙ give_other owner t p x g)
+
+pub give_idle : (owner : ℕ → Owner) (s : ℕ) (o : Owner) → owner s ≡ o → give owner s o ≡ owner
+give_idle owner s o e = fun_ext (λ x. go x (told x s))
+  where
+    go : (x : ℕ) → Told x s → give owner s o x ≡ owner x
+    go x (is t d) = give_same owner s o x d ∙ sym e ∙ ap owner (sym d)
+    go x (isnt t n) = give_other owner s o x n

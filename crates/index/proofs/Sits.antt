@@ -1,20 +1,24 @@
 -- The laws as the set uses them: `place` says where each slot stands, and a call moves the slots that it names. Assumes nothing.
 use mathlib.Core.Path.{◌≡◌, refl, sym, ap, ◌∙◌, fun_ext, subst}
 use mathlib.Core.Logic.{inl, by_cases}
-use mathlib.Core.List.{List, [], ◌∷◌}
+use mathlib.Core.Bool.{cond}
+use mathlib.Core.List.{List, [], ◌∷◌, ◌++◌}
 use Prim.Native.Nat.{ℕ, zero, suc, ◌+◌, ◌<◌, ◌≤◌}
 use native.Mathlib.Decide.{dec_lt}
 use native.Mathlib.Omega.{arith}
+use lib.Dec.{eqb}
 use lib.ListN.{length}
 use borrow.Author.Tests.{eq-eqb, ne_eqb, lt-ltb, le-ltb}
 use Rattle.index.specs.Index.{Chain, reuse, head, Index, with_counts, start, ahead}
 use Rattle.index.specs.inner.Build.{build}
+use Rattle.index.specs.inner.Parts.{insert_new, replace_held, remove_held}
 use Rattle.prelude.specs.Members.{In, Once}
 use Rattle.index.specs.Linked.{Run, end_of, Owner, free, of, WellFormed, placed, ChainsPartition}
-use Rattle.index.proofs.defs.Linked.{Room, owner_of, chains_by}
+use Rattle.index.proofs.defs.Linked.{give, with_chain, Room, owner_of, chains_by}
 use Rattle.prelude.proofs.Paths.{end_in}
-use Rattle.index.proofs.Owners.{free_of, of-of}
-use Rattle.index.proofs.CallWrites.{first_is, formed_alike}
+use Rattle.index.proofs.Owners.{Told, is, isnt, told, free_of, of-of, give_same, give_other}
+use Rattle.index.proofs.CallWrites.{first_is, owner-of, formed_alike, formed_new, formed_held, formed_remove}
+use Rattle.index.proofs.CallWrites.{new_next, new_heads, held_next, held_heads, remove_next, remove_heads}
 use Rattle.index.proofs.ChainLengths.{run_once}
 use Rattle.index.proofs.Builds.{formed_build, build-next, build-heads, owner-in, owner_out}
 
@@ -58,6 +62,42 @@ placed_alike n o place h k = fun_ext (λ x. go x (ranged n x))
     go x (past l) = k x (placed_past n place x l) ∙ sym (placed_past n place x l)
     go x (within l m) = h x l m ∙ sym (placed_in n place x l m)
 
+-- a slot moves
+pub placed_move : (n : ℕ) (place place' : ℕ → Chain) (s : ℕ) → 0 < s → s ≤ n → ((x : ℕ) → 0 < x → x ≤ n → (x ≡ s → ⊥) → place' x ≡ place x)
+    → give (placed n place) s (of (place' s)) ≡ placed n place'
+placed_move n place place' s l m h = fun_ext (λ x. go x (told x s) (ranged n x))
+  where
+    at_s : (x : ℕ) → x ≡ s → placed n place' x ≡ of (place' s)
+    at_s x e = ap (placed n place') e ∙ placed_in n place' s l m
+
+    go : (x : ℕ) → Told x s → Ranged n x → give (placed n place) s (of (place' s)) x ≡ placed n place' x
+    go x (is t e) r = give_same (placed n place) s (of (place' s)) x e ∙ sym (at_s x e)
+    go x (isnt t u) (nought z) =
+        give_other (placed n place) s (of (place' s)) x u ∙ placed_zero n place x z ∙ sym (placed_zero n place' x z)
+    go x (isnt t u) (past k) = give_other (placed n place) s (of (place' s)) x u ∙ placed_past n place x k ∙ sym (placed_past n place' x k)
+    go x (isnt t u) (within k j) =
+        give_other (placed n place) s (of (place' s)) x u ∙ placed_in n place x k j ∙ ap of (sym (h x k j u)) ∙ sym
+        (placed_in n place' x k j)
+
+-- two slots move, the first to a head's chain and the second to reuse
+pub placed_two : (n : ℕ) (place place' : ℕ → Chain) (s t h : ℕ) → 0 < s → s ≤ n → 0 < t → t ≤ n → place' s ≡ head h → place' t ≡ reuse
+    → ((x : ℕ) → 0 < x → x ≤ n → (x ≡ s → ⊥) → (x ≡ t → ⊥) → place' x ≡ place x)
+    → give (give (placed n place) s (of (head h))) t (of reuse) ≡ placed n place'
+placed_two n place place' s t h ls ms lt mt q r o =
+    ap (λ (z : ℕ → Owner). give z t (of reuse))
+    (ap (λ (c : Chain). give (placed n place) s (of c)) (sym mid-s) ∙ placed_move n place mid s ls ms (λ x l m u. rw (ne_eqb x s u)))
+    ∙ ap (λ (c : Chain). give (placed n mid) t (of c)) (sym r) ∙ placed_move n mid place' t lt mt (λ x l m u. then x l m u (told x s))
+  where
+    mid : ℕ → Chain
+    mid x = cond (eqb x s) (head h) (place x)
+
+    mid-s : mid s ≡ head h
+    mid-s = rw (eq-eqb s s refl)
+
+    then : (x : ℕ) → 0 < x → x ≤ n → (x ≡ t → ⊥) → Told x s → place' x ≡ mid x
+    then x l m u (is a e) = rw a (ap place' e ∙ q)
+    then x l m u (isnt a v) = rw a (o x l m v u)
+
 module _ (n b : ℕ) (place : ℕ → Chain) (i : Index) (chains : Chain → List ℕ) (g : ChainsPartition n b place i chains) where
   -- a slot stands in just the chain that is its place, and once
   pub sits_in : (c : Chain) (x : ℕ) → In x (chains c) → (0 < x) × (x ≤ n) × (place x ≡ c)
@@ -81,6 +121,49 @@ module _ (n b : ℕ) (place : ℕ → Chain) (i : Index) (chains : Chain → Lis
       let d : i.state.last ≡ end_of f rest = g.formed.ends ∙ ap (end_of 0) e in
       let q = sits_in reuse (end_of f rest) (rw e (end_in f rest)) in
       (omega (arith, q.0), omega (arith, q.1))
+
+  module _ (place' : ℕ → Chain) (h prev f : ℕ) (rest : List ℕ) (e : chains reuse ≡ f ∷ rest) where
+    first_in : (0 < f) × (f ≤ n) × (place f ≡ reuse)
+    first_in = placed_of n place f reuse (owner-of _ _ _ reuse [] f rest g.formed.disjoint e)
+
+    pub sits_new : h < b → prev ≡ end_of 0 (chains (head h)) → place' f ≡ head h
+        → ((x : ℕ) → 0 < x → x ≤ n → (x ≡ f → ⊥) → place' x ≡ place x)
+        → ChainsPartition n b place' (insert_new i h prev) (with_chain (with_chain chains reuse rest) (head h) (chains (head h) ++ f ∷ []))
+    sits_new l p q o = record {
+      formed =
+          formed_alike (insert_new i h prev) _ _ _ _ (ap (λ (c : Chain). give (placed n place) f (of c)) (sym q)
+          ∙ placed_move n place place' f first_in.0 first_in.1 o) refl
+          (formed_new _ _ _ h prev f rest g.formed e (rw g.heads_size l) p);
+      next_size = new_next _ _ _ ∙ g.next_size;
+      heads_size = new_heads _ _ _ ∙ g.heads_size;
+    }
+
+    module _ (xs : List ℕ) (old : ℕ) (ys : List ℕ) (d : chains (head h) ≡ xs ++ old ∷ ys) (p : prev ≡ end_of 0 xs) where
+      old-in : (0 < old) × (old ≤ n) × (place old ≡ head h)
+      old-in = placed_of n place old (head h) (owner-of _ _ _ (head h) xs old ys g.formed.disjoint d)
+
+      pub sits_held : place' f ≡ head h → place' old ≡ reuse → ((x : ℕ) → 0 < x → x ≤ n → (x ≡ f → ⊥) → (x ≡ old → ⊥) → place' x ≡ place x)
+          → ChainsPartition n b place' (replace_held i h prev old) (with_chain (with_chain chains reuse (rest ++ old ∷ [])) (head h) (xs ++ f ∷ ys))
+      sits_held q r o = record {
+        formed =
+            formed_alike (replace_held i h prev old) _ _ _ _
+            (placed_two n place place' f old h first_in.0 first_in.1 old-in.0 old-in.1 q r o) refl
+            (formed_held _ _ _ h prev f rest g.formed e xs old ys d p);
+        next_size = held_next _ _ _ _ ∙ g.next_size;
+        heads_size = held_heads _ _ _ _ ∙ g.heads_size;
+      }
+
+      pub sits_remove : place' old ≡ reuse → ((x : ℕ) → 0 < x → x ≤ n → (x ≡ old → ⊥) → place' x ≡ place x)
+          → ChainsPartition n b place' (remove_held i h prev old) (with_chain (with_chain chains reuse (rest ++ old ∷ f ∷ [])) (head h) (xs ++ ys))
+      sits_remove q o = record {
+        formed =
+            formed_alike (remove_held i h prev old) _ _ _ _
+            (ap (λ (c : Chain). give (placed n place) old (of c)) (sym q) ∙ placed_move n place place' old old-in.0
+            old-in.1 o) refl
+            (formed_remove _ _ _ h prev f rest g.formed e xs old ys d p);
+        next_size = remove_next _ _ _ _ ∙ g.next_size;
+        heads_size = remove_heads _ _ _ _ ∙ g.heads_size;
+      }
 
 -- recovery's last step, from a list of all slots
 pub sits_build : (n b : ℕ) (place : ℕ → Chain) (i : Index) (l : List ℕ) → WellFormed i (λ _. free) (λ _. []) → length i.next ≡ n + 1

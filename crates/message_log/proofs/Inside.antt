@@ -72,9 +72,14 @@ invalidations_inside n m h k (suc j) l = go (is_above m h k) (invalidations_insi
 
 -- ---- what an append is refused with first, and what an accepted one knows
 
-pub area_first : (area : List ℕ) (last : ℕ) (message : List ℕ) (ats vals : ℕ) → area_fault area ≡ 30 → append_after_fault area last message ats vals ≡ 30
+pub area_first_after : (area : List ℕ) (last : ℕ) (message : List ℕ) (ats vals : ℕ) → area_fault area ≡ 30
+    → append_after_fault area last message ats vals ≡ 30
 unfolding append_after_fault
-area_first area last message ats vals e = or_else_first (area_fault area) _ (λ z. omega (arith, e)) ∙ e
+area_first_after area last message ats vals e = or_else_first (area_fault area) _ (λ z. omega (arith, e)) ∙ e
+
+pub area_first : (area message : List ℕ) (ats vals : ℕ) → area_fault area ≡ 30 → append_fault area message ats vals ≡ 30
+unfolding append_fault
+area_first area message ats vals e = or_else_first (area_fault area) _ (λ z. omega (arith, e)) ∙ e
 
 pub record Accepted (area message : List ℕ) : Type 0 where
   pub area_fine : area_fault area ≡ 0

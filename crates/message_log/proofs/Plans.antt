@@ -29,7 +29,7 @@ use Rattle.stores.proofs.Lists.{StoresFill, stores_begin, stores_on, stores_end,
 use Rattle.message_log.proofs.Fillings.{filled, filled_append, hand_refused, hand_done}
 use Rattle.message_log.proofs.AppendAfter.{after_highest}
 use Rattle.message_log.proofs.Parts.{no_area, is_area, cells_by}
-use Rattle.message_log.proofs.Inside.{area_first}
+use Rattle.message_log.proofs.Inside.{area_first_after}
 
 -- ---- the payload lines
 
@@ -231,7 +231,7 @@ module _ (area : List ℕ) (last : ℕ) (message : List ℕ) (ats vals k : ℕ) 
 
   pub plan_no_area : (fault number cell pairs count : ℕ) → k ≡ 0 → fault ≡ 30 → AppendAfterPlanned area last message ats vals fault number cell pairs count
   plan_no_area fault number cell pairs count z p =
-      refuses_with fault number cell pairs count 30 (λ x. omega arith) p (sym (area_first area last message ats vals (no_area area k e z)))
+      refuses_with fault number cell pairs count 30 (λ x. omega arith) p (sym (area_first_after area last message ats vals (no_area area k e z)))
 
   module _ (some : k ≡ 0 → ⊥) where
     all : CellCount (length area) k
@@ -276,10 +276,10 @@ module _ (area : List ℕ) (last : ℕ) (message : List ℕ) (ats vals k : ℕ) 
                 ap (λ (n : ℕ). 8 + n) g.size ∙ sym (message-length (word area) cell (suc last) message)
                 ∙ ap (λ (x : ℕ). length (message_stores (word area) x (suc last) message)) cell_is
 
-            pub plan_done : (fault : ℕ) → fault ≡ short_fault (8 + stores) ats vals
+            pub plan_done_after : (fault : ℕ) → fault ≡ short_fault (8 + stores) ats vals
                 → AppendAfterPlanned area last message ats vals fault (last + 1) cell pairs (8 + stores)
             unfolding append_after_fault short_fault
-            plan_done fault r =
+            plan_done_after fault r =
                 record {
                   refusal =
                       r ∙ ap (λ (n : ℕ). short_fault n ats vals) size_is
@@ -366,6 +366,16 @@ module _ (area message : List ℕ) (ats vals fault number cell pairs count : ℕ
     planned_by top f g =
         planned_highest
         (subst (λ (n : ℕ). AppendAfterPlanned area n message ats vals fault number cell pairs count) (f ∙ ap (λ (j : ℕ). highest j (word area)) e) g)
+
+-- an append whose payload is planned is planned
+module _ (area message : List ℕ) (ats vals k : ℕ) (e : k ≡ cells_in area) (some : k ≡ 0 → ⊥) (unfit : ℕ) (u : unfit ≡ message_fault (length message))
+    (fit : unfit ≡ 0) (top : ℕ) (f : top ≡ highest k (word area)) (over : ℕ) (v : over ≡ version_fault (top + 1)) (fits : over ≡ 0) (cell : ℕ)
+    (p : cell ≡ (top + 1) % k) (pairs stores : ℕ) (g : PayloadPlanned area cell message pairs stores) where
+  pub plan_done : (fault : ℕ) → fault ≡ short_fault (8 + stores) ats vals
+      → AppendPlanned area message ats vals fault (top + 1) cell pairs (8 + stores)
+  plan_done fault r =
+      planned_by area message ats vals fault (top + 1) cell pairs (8 + stores) k e top f
+      (plan_done_after area top message ats vals k e some unfit u fit over (v ∙ ap version_fault (add-one top)) fits cell p pairs stores g fault r)
 
 module _ (area message at value : List ℕ) (fault number cell pairs count : ℕ)
     (g : AppendPlanned area message (length at) (length value) fault number cell pairs count) where

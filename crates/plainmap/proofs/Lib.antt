@@ -21,6 +21,8 @@ pub mod FormattedImages
 pub mod Compares
 pub mod BasketRights
 pub mod Singles
+pub mod SingleRules
+pub mod Outcomes
 pub mod OwnCalls
 pub mod BasketItems
 pub mod Room

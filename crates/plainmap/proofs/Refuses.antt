@@ -1,14 +1,16 @@
 -- The refusals of the calls where the image is accepted and the index is its own: those that the rules leave. Assumes nothing.
 use mathlib.Core.Path.{◌≡◌, refl, sym, ap, ap₂, ◌∙◌}
-use mathlib.Core.Bool.{Bool, true, false}
-use mathlib.Core.Option.{some}
+use mathlib.Core.Bool.{Bool, true, false, cond}
+use mathlib.Core.Option.{Option, some}
 use mathlib.Core.List.{List}
-use Prim.Native.Nat.{ℕ, ◌+◌, ◌≤◌}
+use Prim.Native.Nat.{ℕ, ◌+◌, ◌≤◌, ◌<◌}
 use native.Mathlib.Omega.{arith}
 use lib.Dec.{ltb, leb}
 use lib.ListN.{length}
 use borrow.Author.Tests.{ne_eqb, le-ltb}
 use Rattle.prelude.specs.Refusal.{refuse_if, or_else}
+use Rattle.prelude.proofs.Choice.{true-false}
+use Rattle.prelude.proofs.Count.{count_less}
 use Rattle.prelude.specs.Filter.{filter}
 use Rattle.layout.specs.Record.{limit}
 use Rattle.layout.specs.Header.{lent_fault}
@@ -19,21 +21,25 @@ use Rattle.table.specs.Complete.{table_of, NoneVoid}
 use Rattle.table.specs.Takeable.{may_take, takeable_count}
 use Rattle.table.proofs.Alike.{alike_takeable}
 use Rattle.table.proofs.TakeableCount.{takeable-count}
-use Rattle.table.specs.Table.{value_in, map_of, live, live_count}
+use Rattle.table.specs.Table.{value_in, map_of, live, live_count, is_held}
 use Rattle.prelude.specs.Members.{Slot}
 use Rattle.index.specs.Index.{Index, Chain, reuse}
 use Rattle.index.specs.Linked.{ChainsPartition}
 use Rattle.index.specs.Walk.{search, chain_fault}
+use Rattle.index.specs.Change.{inserts_of, key_fault, is_found}
 use Rattle.index.specs.Allocation.{Allocation, ends_fault, link_fault, few_fault, reuse_fault, room_fault}
 use Rattle.index.proofs.defs.TakenIn.{taken_in}
 use Rattle.index.proofs.Allocations.{sits_taking, few_exact, links_fine}
-use Rattle.allocation.specs.Allocation.{allocation_by_rule}
+use Rattle.allocation.specs.Allocation.{allocation_by_rule, allocation_by}
 use Rattle.layout.specs.Line.{version_fault}
 use Rattle.index.specs.declared.Found.{Found}
+use Rattle.index.specs.declared.Mode.{Mode}
+use Rattle.index.specs.declared.State.{State}
 use Rattle.index.proofs.Sits.{sits_first, sits_last}
-use Rattle.calls.specs.Change.{store_fault}
+use Rattle.calls.specs.Change.{store_fault, write_fault_by, write_lent_fault, write_later_fault, write_fault}
+use Rattle.calls.specs.Change.{remove_fault_by, remove_later_fault, remove_fault}
 use Rattle.calls.specs.Get.{length_fault, get_later_fault, get_fault}
-use Rattle.plainmap.specs.World.{World, get}
+use Rattle.plainmap.specs.World.{World, write, remove, get}
 use Rattle.layout.specs.Size.{slots_in}
 use Rattle.plainmap.specs.Plain.{size_of, room_rule, rule_fault}
 use Rattle.plainmap.specs.Accepted.{Accepted}
@@ -64,6 +70,17 @@ two_twenty_eight true b later = refl
 two_twenty_eight false true later = refl
 two_twenty_eight false false later = refl
 
+pub long_first : (long : Bool) (later : ℕ) → or_else (refuse_if long 10 0) later ≡ refuse_if long 10 later
+unfolding or_else refuse_if
+long_first true later = refl
+long_first false later = refl
+
+-- a live slot is counted
+live_counted : (f : Table) (n s : ℕ) → Slot n s → live f n s ≡ true → 0 < live_count f n
+unfolding live_count
+live_counted f n s i e =
+    omega (arith, count_less (live f n) (λ (t : ℕ). false) n s i refl e (λ t j z. absurd (true-false z refl)))
+
 -- ---- the checks after 4, by what the search found
 
 module _ (f : Table) (n key : ℕ) (chain : List ℕ) where
@@ -72,6 +89,21 @@ module _ (f : Table) (n key : ℕ) (chain : List ℕ) where
   unfolding chain_fault
   sees_whole found (sees_held xs ys v d p i q e m u) = refl
   sees_whole found (sees_absent p m) = refl
+
+  write_checks : (mode : Mode) (taking : Allocation) (s : State) (found : Found) → Sees f n key chain found
+      → write_later_fault mode found taking n s ≡ or_else (key_fault mode (is_held (map_of f n key))) (store_fault taking n s (inserts_of mode) 0)
+  unfolding write_later_fault chain_fault is_found or_else is_held
+  write_checks mode taking s found (sees_held xs ys v d p i q e m u) =
+      sym (ap (λ (o : Option (List ℕ)). or_else (key_fault mode (is_held o)) (store_fault taking n s (inserts_of mode) 0)) m)
+  write_checks mode taking s found (sees_absent p m) =
+      sym (ap (λ (o : Option (List ℕ)). or_else (key_fault mode (is_held o)) (store_fault taking n s (inserts_of mode) 0)) m)
+
+  remove_checks : (taking : Allocation) (s : State) (row : ℕ) → (0 < live_count f n → store_fault taking n s 0 1 ≡ row) → (found : Found)
+      → Sees f n key chain found → remove_later_fault found taking n s ≡ cond (is_held (map_of f n key)) row 0
+  unfolding remove_later_fault is_held
+  remove_checks taking s row z found (sees_held xs ys v d p i q e m u) =
+      z (live_counted f n _ i e) ∙ sym (ap (λ (o : Option (List ℕ)). cond (is_held o) row 0) m)
+  remove_checks taking s row z found (sees_absent p m) = sym (ap (λ (o : Option (List ℕ)). cond (is_held o) row 0) m)
 
   get_checks : (l : ℕ) (image : List ℕ) (size : ℕ)
       → ((t : ℕ) (v : List ℕ) → Slot n t → live f n t ≡ true → value_in (f t) ≡ some v → KeepsValue l image t v)
@@ -137,6 +169,25 @@ module _ (l : ℕ) (w : World) (chains : Chain → List ℕ) (a : Accepted l w.i
         (λ (v : ℕ). refuse_if (ltb (takeable_count (table_of l w.image) n) wanted) 28
         (refuse_if (leb (n + removes) (live_count (table_of l w.image) n + inserts)) 28 (version_fault v)))
         s.next-version
+
+    -- INSERT AND REPLACE are refused where the rules refuse them
+    pub write-fault : (mode : Mode) (key : ℕ) (value : List ℕ)
+        → write_fault l w.image w.index mode key (length value) ≡ expected_refusal l w (slots_map l w.image) (write mode key value)
+    unfolding write_fault_by write_lent_fault rule_fault allocation_by
+    write-fault mode key value =
+        ap (λ (x : ℕ). or_else x (write_later_fault mode (search l w.image w.index.heads w.index.next key) (taking 1) n w.index.state))
+        (or_else_later _ _ sound_lent)
+        ∙ long_first (ltb (limit l) (length value)) _
+        ∙ ap (refuse_if (ltb (limit l) (length value)) 10)
+        (write_checks (table_of l w.image) n key _ mode (taking 1) w.index.state _ (sound_sees l w chains s key)
+        ∙ ap (or_else (key_fault mode (is_held (slots_map l w.image key)))) (store_row 1 (inserts_of mode) 0 (omega arith)))
+
+    -- REMOVE is refused where the rules refuse it
+    pub remove-fault : (key : ℕ) → remove_fault l w.image w.index key ≡ expected_refusal l w (slots_map l w.image) (remove key)
+    unfolding remove_fault_by allocation_by rule_fault
+    remove-fault key =
+        or_else_later _ _ sound_lent
+        ∙ remove_checks (table_of l w.image) n key _ (taking 1) w.index.state _ (λ some. store_row 1 0 1 some) _ (sound_sees l w chains s key)
 
   -- GET is refused where the rules refuse it: with 13 alone
   pub get-fault : (key : ℕ) (out : List ℕ)

@@ -24,7 +24,7 @@ use Rattle.table.specs.Table.{is_held, next_version}
 use Rattle.table.specs.Complete.{table_of, NoneVoid}
 use Rattle.table.specs.Takeable.{may_take, taken_of}
 use Rattle.table.proofs.Alike.{alike_highest_last}
-use Rattle.table.proofs.ReuseOrder.{single_first}
+use Rattle.table.proofs.ReuseOrder.{single_first_of_list}
 use Rattle.index.specs.Index.{Index, Chain, reuse, head, head_of}
 use Rattle.index.specs.Walk.{search}
 use Rattle.index.specs.Change.{take_first, inserts_of, key_fault, is_found}
@@ -61,7 +61,7 @@ use Rattle.plainmap.specs.Claims.{CallCorrect, Unchanged}
 use Rattle.plainmap.specs.Baskets.{Basket, basket_call_result, basket_rule, expected_basket_refusal, slots_taken, basket_updates, key_update}
 use Rattle.plainmap.proofs.Wrote.{some_sound, Stepped, stored_none, stored_records}
 use Rattle.plainmap.proofs.Sees.{Sees, sees_held, sees_absent, sound_sees}
-use Rattle.plainmap.proofs.Refuses.{sound_lent}
+use Rattle.plainmap.proofs.Refuses.{long_first, sound_lent}
 use Rattle.plainmap.proofs.Rights.{gives-absent}
 use Rattle.plainmap.proofs.Compares.{few_compared, counts_place}
 use Rattle.plainmap.proofs.GetAnswers.{get_right}
@@ -77,11 +77,6 @@ one_key action key value = record { changes = one_change action key value; at = 
 
 -- ---- the rules for a call of one key are those for its basket
 
-long_first : (long : Bool) (later : ℕ) → or_else (refuse_if long 10 0) later ≡ refuse_if long 10 later
-unfolding or_else refuse_if
-long_first true later = refl
-long_first false later = refl
-
 write_rule : (l : ℕ) (r : Room) (m : PlainMap) (mode : Mode) (key : ℕ) (value : List ℕ)
     → basket_rule l r m (one_key (Write mode) key value) ≡ rule_fault l r m (write mode key value)
 unfolding basket_rule rule_fault given_fault key_count_fault any_twice among lists_fault first_fault value_fault action_fault sum_over inserts_by removes_by
@@ -92,7 +87,8 @@ write_rule l r m Insert key value =
 write_rule l r m Replace key value =
     simp or_else_none (long_first (ltb (limit l) (length value)) (or_else (key_fault Replace (is_held (m key))) (room_rule r 1 0 0)))
 
-remove_rule : (l : ℕ) (r : Room) (m : PlainMap) (key : ℕ) → is_held (m key) ≡ true → basket_rule l r m (one_key Remove key []) ≡ rule_fault l r m (remove key)
+pub remove_rule : (l : ℕ) (r : Room) (m : PlainMap) (key : ℕ) → is_held (m key) ≡ true
+    → basket_rule l r m (one_key Remove key []) ≡ rule_fault l r m (remove key)
 unfolding basket_rule rule_fault given_fault key_count_fault any_twice among lists_fault first_fault value_fault action_fault sum_over inserts_by removes_by
     or_else refuse_if
 remove_rule l r m key e = simp e refl
@@ -173,7 +169,7 @@ module _ (l : ℕ) (lay : Layout l) (w : World) (chains : Chain → List ℕ) (a
         let last = alike_highest_last (table_of l w.image) f n (λ t j. sym (same_slots l w chains g none_void t j)) (chains reuse)
         (spares l w chains g none_void).slot g.highest in
         let may : may_take f n s ≡ true =
-        single_first f n s reuse_is.0 (rw reuse_is.1 at (spares l w chains g none_void)) (rw reuse_is.1 at (older l w chains g none_void))
+        single_first_of_list f n s reuse_is.0 (rw reuse_is.1 at (spares l w chains g none_void)) (rw reuse_is.1 at (older l w chains g none_void))
         (rw reuse_is.1 at last) (rw reuse_is.1 at some) in
         rw (reuse_is.1, may) refl
 
@@ -186,7 +182,7 @@ module _ (l : ℕ) (lay : Layout l) (w : World) (chains : Chain → List ℕ) (a
 
   -- a call of one key that is not refused: it takes this slot, as the rule and the basket do
   module _ (action : Action) (key : ℕ) (value : List ℕ) (z : basket_fault l w.image i (one_change action key value) 16 16 ≡ 0) where
-    takes : takes_in (may_take f n) 0 1 (chains reuse) ≡ first ∷ []
+    pub takes : takes_in (may_take f n) 0 1 (chains reuse) ≡ first ∷ []
     takes = first_takes (enough l lay w chains accepted g none_void (one_change action key value) (basket_passed l w (one_change action key value) 16 16 z))
 
     taken_is : allocation_by_rule l w.image i.next n s 1 ≡ taken (first ∷ [])
@@ -200,7 +196,7 @@ module _ (l : ℕ) (lay : Layout l) (w : World) (chains : Chain → List ℕ) (a
     rest_is : take_first i ≡ take_slot i first
     rest_is = sym (take-first i _ chains reuse_is.0 g.index.formed reuse_is.1)
 
-    one_made : (count : ℕ) → made l w.image i key s count action value ≡ as_single count (basket_call_result l w (one_key action key value))
+    pub one_made : (count : ℕ) → made l w.image i key s count action value ≡ as_single count (basket_call_result l w (one_key action key value))
     unfolding basket_call_result
     one_made count =
         sym
@@ -261,7 +257,7 @@ module _ (l : ℕ) (lay : Layout l) (w : World) (chains : Chain → List ℕ) (a
       go Replace (Missing prev compared) e a sees = absurd (true≢false (sym (replace-held false a)))
 
   -- REMOVE, of a held key; of another it is absent, where the basket is refused with 21
-  data RemoveIs (key : ℕ) : Type 0 where
+  pub data RemoveIs (key : ℕ) : Type 0 where
     of-held : is_held (slots_map l w.image key) ≡ true
         → ((t : ℕ) (rest : Index) → Takes Remove key [] t rest → remove_unless (remove_fault l w.image i key) l w.image i key t rest
         ≡ as_single (key_compared l w.image i.heads i.next key) (basket_call_result l w (one_key Remove key [])))
@@ -271,7 +267,7 @@ module _ (l : ℕ) (lay : Layout l) (w : World) (chains : Chain → List ℕ) (a
         ≡ unchanged absent i (key_compared l w.image i.heads i.next key))
         → RemoveIs key
 
-  remove_is : (key : ℕ) → RemoveIs key
+  pub remove_is : (key : ℕ) → RemoveIs key
   unfolding remove_unless remove_fault_by remove_later_fault remove_done is_held
   remove_is key = go _ refl (sound_sees l w chains g key)
     where
@@ -295,7 +291,7 @@ module _ (l : ℕ) (lay : Layout l) (w : World) (chains : Chain → List ℕ) (a
           (λ t rest. taken_leaves _ _ _ (simp (e, or_else_none) (sound_lent l w chains accepted g)) ∙ ap (remove_done l w.image i key t rest count) e)
 
   -- the slot of the call is the first, and so is that of the taking rule
-  call_takes : (action : Action) (key : ℕ) (value : List ℕ) → Takes action key value s (take_first i)
+  pub call_takes : (action : Action) (key : ℕ) (value : List ℕ) → Takes action key value s (take_first i)
   call_takes action key value z = (refl, rest_is action key value z)
 
   rule_takes : (action : Action) (key : ℕ) (value : List ℕ) → Takes action key value (slot_by_rule l w.image i).slot (take_slot i (slot_by_rule l w.image i))

@@ -1,23 +1,27 @@
 -- What a call does: it stores nothing, or it writes records and leaves an index. Assumes nothing.
 use mathlib.Core.Path.{◌≡◌}
-use mathlib.Core.List.{List, []}
+use mathlib.Core.Bool.{true}
+use mathlib.Core.Option.{none}
+use mathlib.Core.List.{List, [], ◌∷◌}
 use Prim.Native.Nat.{ℕ, ◌+◌, ◌^◌, ◌<◌}
 use lib.ListN.{length}
 use Rattle.words.specs.Word.{word}
 use Rattle.prelude.specs.Members.{All}
+use Rattle.prelude.specs.Answer.{absent, refused}
 use Rattle.prelude.proofs.defs.Answer.{is_refusal}
 use Rattle.layout.specs.Size.{slots_in}
 use Rattle.layout.specs.Content.{contents_of, size_fields_of}
 use Rattle.stores.specs.Basket.{BasketRecord, basket_slots, basket_stores}
 use Rattle.stores.specs.Cut.{LawfulRecord}
-use Rattle.table.specs.Table.{map_of, live_count, next_version}
+use Rattle.table.specs.Table.{map_of, live_count, next_version, is_held}
 use Rattle.table.specs.Complete.{table_of, size_field_for}
 use Rattle.table.proofs.defs.Basket.{Basket, HeldRemoved, puts_in, held_in, changes}
 use Rattle.table.proofs.defs.Struck.{Struck, Finished}
 use Rattle.table.proofs.defs.ReuseAfter.{BrokenTaken}
 use Rattle.index.specs.Index.{Index, Chain, with_counts}
 use Rattle.table.proofs.defs.Entries.{record_at}
-use Rattle.calls.specs.Result.{CallResult}
+use Rattle.calls.specs.Change.{changed}
+use Rattle.calls.specs.Result.{CallResult, unchanged}
 use Rattle.plainmap.specs.World.{World}
 use Rattle.plainmap.specs.Plain.{Update, plain_step}
 use Rattle.plainmap.specs.Claims.{slots_map}
@@ -70,3 +74,16 @@ pub data Stepped (l : ℕ) (w : World) (us : List Update) (r : CallResult) : Typ
       → ((k : ℕ) → changes (basket_slots es) (record_at (next_of l w.image) es) (slots_map l w.image) k ≡
       plain_step us (is_refusal r.answer) (slots_map l w.image) k)
       → Stepped l w us r
+
+-- the one record of a single call, for the first slot of reuse
+abbrev pub one_record : World → (key kind : ℕ) → (value : List ℕ) → List BasketRecord
+one_record w key kind value = record { slot = w.index.state.first; key = key; kind = kind; value = value } ∷ []
+
+-- the ways a call goes that is to write a record of this kind and value, by its fault; the result is `r`
+pub data Ran (l : ℕ) (w : World) (key kind : ℕ) (value : List ℕ) (fault : ℕ) (r : CallResult) : Type 0 where
+  ran_refused : (fault ≡ 0 → ⊥) → (count : ℕ) → r ≡ unchanged (refused fault) w.index count → Ran l w key kind value fault r
+  ran_absent : fault ≡ 0 → kind ≡ 2 → (count : ℕ) → r ≡ unchanged absent w.index count
+      → map_of (table_of l w.image) (slots_in w.image) key ≡ none → Ran l w key kind value fault r
+  ran_wrote : fault ≡ 0 → (i : Index) (alive count : ℕ) → r ≡ changed l w.image w.index.state w.index.state.first key kind value i alive count
+      → WroteRecords l w (one_record w key kind value) i alive w.index.state.first
+      → (kind ≡ 2 → is_held (map_of (table_of l w.image) (slots_in w.image) key) ≡ true) → Ran l w key kind value fault r

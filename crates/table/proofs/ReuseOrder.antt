@@ -1,11 +1,11 @@
--- The order of the reuse chain in which a single call takes its first slot. Assumes nothing.
+-- The order of the reuse chain in which a single call takes its first slot or none. Assumes nothing.
 use mathlib.Core.Path.{◌≡◌, refl, sym, ap, ◌∙◌}
 use mathlib.Core.Bool.{Bool, true, false, cond}
 use mathlib.Core.Logic.{inl, inr, ⊎_elim}
 use mathlib.Core.List.{List, [], ◌∷◌, ◌++◌}
 use Prim.Native.Nat.{ℕ, ◌<◌}
 use native.Mathlib.Omega.{arith}
-use lib.ListN.{length}
+use lib.ListN.{length, take}
 use Rattle.layout.specs.Content.{Content, broken, empty, put_record, remove_record, Table, highest_whole_in}
 use Rattle.prelude.specs.Filter.{filter}
 use Rattle.prelude.specs.Members.{In, Slot}
@@ -16,7 +16,7 @@ use Rattle.sorting.proofs.Order.{filter_in}
 use Rattle.table.specs.Order.{rank_of, reuse_of}
 use Rattle.table.specs.Reuse.{OlderFirst, HighestLast}
 use Rattle.table.specs.Table.{is_record}
-use Rattle.table.specs.Takeable.{is_remove, older, highest_valid, may_take}
+use Rattle.table.specs.Takeable.{is_remove, older, highest_valid, taken_of, may_take}
 use Rattle.table.proofs.defs.Reuse.{Spares}
 use Rattle.table.proofs.Ranks.{record_rank, low_rank}
 use Rattle.table.proofs.Recovery.{recovery_rising, recovery_spares}
@@ -94,10 +94,10 @@ older_carry f f' (x ∷ l) h a = (
 
 -- ---- a single call
 
--- A SINGLE CALL TAKES THE FIRST SLOT OF THE REUSE CHAIN where any slot of it may be taken
-pub single_first : (f : Table) (n s : ℕ) (l : List ℕ) → Spares f n (s ∷ l) → OlderFirst f (s ∷ l) → HighestLast f n (s ∷ l)
+-- it takes the first slot of the reuse chain where any slot of it may be taken
+pub single_first_of_list : (f : Table) (n s : ℕ) (l : List ℕ) → Spares f n (s ∷ l) → OlderFirst f (s ∷ l) → HighestLast f n (s ∷ l)
     → 0 < length (filter (may_take f n) (s ∷ l)) → may_take f n s ≡ true
-single_first f n s l sp older-first last some = go (may_take f n s) refl
+single_first_of_list f n s l sp older-first last some = go (may_take f n s) refl
   where
     none : highest_whole_in (f s) ≡ highest_valid f n → is_record (f s) ≡ true → (t : ℕ) → In t (s ∷ l) → may_take f n t ≡ false
     none top e t (inl q) = ap (may_take f n) q ∙ highest_barred f n s e top
@@ -115,3 +115,21 @@ single_first f n s l sp older-first last some = go (may_take f n s) refl
     go : (b : Bool) → may_take f n s ≡ b → may_take f n s ≡ true
     go true e = e
     go false e = absurd (by (barred f n s (sp.slot s (inl refl)) e))
+
+-- what a single call takes of a chain: nothing, or its first slot, which may be taken
+pub data SingleTaken (f : Table) (n : ℕ) (chain : List ℕ) : Type 0 where
+  takes_none : taken_of f n 1 chain ≡ [] → SingleTaken f n chain
+  takes_first : (s : ℕ) (rest : List ℕ) → chain ≡ s ∷ rest → may_take f n s ≡ true → SingleTaken f n chain
+
+-- A SINGLE CALL TAKES THE FIRST SLOT OF THE REUSE CHAIN OR NONE
+pub single_first : (f : Table) (n : ℕ) (reuse : List ℕ) → Spares f n reuse → OlderFirst f reuse → HighestLast f n reuse → SingleTaken f n reuse
+unfolding taken_of filter
+single_first f n [] sp older-first last = takes_none refl
+single_first f n (s ∷ l) sp older-first last = go (filter (may_take f n) (s ∷ l)) refl
+  where
+    go : (k : List ℕ) → filter (may_take f n) (s ∷ l) ≡ k → SingleTaken f n (s ∷ l)
+    go [] e = takes_none (ap (λ (c : List ℕ). take 1 c) e)
+    go (x ∷ k) e =
+        takes_first s l refl
+        (single_first_of_list f n s l sp older-first last
+        (omega (arith, ap (λ (c : List ℕ). length c) e, let q : 0 < length (x ∷ k) = omega arith in q)))

@@ -1,7 +1,7 @@
 -- Answers of `log_stores_code::planning::append_after_plan`.
 use mathlib.Core.Path.{refl}
 use native.Mathlib.Omega.{arith}
-use Rattle.message_log.proofs.Plans.{number_low, plan_no_area, plan_no_message, plan_no_number, cell_room, plan_done}
+use Rattle.message_log.proofs.Plans.{number_low, plan_no_area, plan_no_message, plan_no_number, cell_room, plan_done_after}
 use Rattle.log_stores_code.proofs.planning.append_after_plan.Goals as goal
 
 pub returns-then-k-eq0 : goal.returns-then-k-eq0
@@ -36,7 +36,7 @@ payload_plan-payload-requires c =
 pub returns : goal.returns
 returns c =
     record {
-      result = (plan_done _ _ _ _ _ _ c.cell_count-k.ensures.result
+      result = (plan_done_after _ _ _ _ _ _ c.cell_count-k.ensures.result
           c.if-k-eq0.false _ c.message_fault-unfit.ensures c.if-unfit-ne0.false _
           c.number_fault-over.ensures c.if-over-ne0.false _ refl _ _ c.payload_plan-payload.ensures _ c.short_fault.ensures.result);
     }
