@@ -1,6 +1,6 @@
 # The C side: the library, the tools, the command, the examples, the tests and the measurements. The proofs are checked by .ci/run.
-#   make archive   the archives, proved and built: of each static library X of crates.txt, by rt lib in crates/X, its
-#                  crates/X/out/libX.a, copied to target/staticlib/libX.a                                (rt)
+#   make archive   the archives, proved and built: target/staticlib/liborderset_c.a, liborderset2_c.a and
+#                  liborderset_log_c.a, joined of those that rt lib makes of each static library of crates.txt   (rt ar)
 #   make lib       one library of the archives and the handle: target/lib/liborderset.a and liborderset.so.1   (gcc)
 #   make test      the tests of docs/TESTS.md                     (gcc g++ python3 pkg-config cargo groff); SEED=... repeats
 #                  a run; SAN=address,undefined or SAN=thread: with these sanitizers
@@ -22,10 +22,13 @@
 RT ?= rt
 OUT := target/c
 LIB := target/lib
-LISTED := $(shell sed -n 's|^\([a-z0-9_]*_c\) staticlib:.*|target/staticlib/lib\1.a|p' crates.txt)
-LOG_ARCHIVE := $(filter target/staticlib/liborderset_log_c.a,$(LISTED))
-ARCHIVE2 := $(filter target/staticlib/liborderset2_%,$(LISTED))
-ARCHIVE := $(filter-out $(LOG_ARCHIVE) $(ARCHIVE2),$(LISTED))
+# of each static library of crates.txt one
+PARTS := $(shell sed -n 's|^\([a-z0-9_]*_c\) staticlib:.*|target/parts/lib\1.a|p' crates.txt)
+PARTS2 := $(filter target/parts/liborderset2_%,$(PARTS))
+LOG_PARTS := $(filter target/parts/liborderset_log_%,$(PARTS))
+ARCHIVE := target/staticlib/liborderset_c.a
+ARCHIVE2 := target/staticlib/liborderset2_c.a
+LOG_ARCHIVE := target/staticlib/liborderset_log_c.a
 ARCHIVES := $(ARCHIVE2) $(ARCHIVE) $(LOG_ARCHIVE)
 PLUG := crates/plug/out/plug
 REPORT := crates/report/out/report
@@ -68,10 +71,17 @@ lib: $(LIB)/liborderset.a $(LIB)/liborderset.so.1
 # ---- the proved archives
 
 archive: $(ARCHIVES)
-$(ARCHIVES): target/staticlib/lib%.a: $(CRATES)
+$(PARTS): target/parts/lib%.a: $(CRATES)
 	cd crates/$* && $(RT) lib
 	@mkdir -p $(@D)
 	cp crates/$*/out/lib$*.a $@
+$(ARCHIVE): $(filter-out $(PARTS2) $(LOG_PARTS),$(PARTS))
+$(ARCHIVE2): $(PARTS2)
+$(LOG_ARCHIVE): $(LOG_PARTS)
+$(ARCHIVES):
+	@mkdir -p $(@D)
+	rm -f $@
+	printf '%s\n' 'create $@' $(^:%='addlib %') save end | ar -M
 # a program as rt run makes it, on what stands beside its src/, or as rt ci left it
 $(PLUG) $(REPORT): crates/%: $(CRATES)
 	cd crates/$(*D:/out=) && $(RT) run <stdin >/dev/null

@@ -13,7 +13,7 @@ import sys
 import tempfile
 
 ROOT = os.path.join(os.path.dirname(os.path.abspath(__file__)), "..")
-ARCHIVES = [f"target/staticlib/lib{name}.a" for name in re.findall(r"^(\w+_c) staticlib:", open(f"{ROOT}/crates.txt").read(), re.M)]
+ARCHIVES = [f"target/staticlib/lib{name}.a" for name in ("orderset_c", "orderset2_c", "orderset_log_c")]
 PREFIX = "/opt/orderset"
 PYTHON = f"lib/python{sys.version_info[0]}.{sys.version_info[1]}/site-packages"
 count = 0
