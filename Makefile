@@ -1,16 +1,17 @@
-# The C side: the library, the tools, the examples, the tests and the measurements. The proofs are checked by .ci/run.
-#   make archive   the archives, proved and built: of each static library X of crates.txt, by rt lib in crates/X, its
-#                  crates/X/out/libX.a, copied to target/staticlib/libX.a                                (rt)
+# The C side: the library, the tools, the command, the examples, the tests and the measurements. The proofs are checked by .ci/run.
+#   make archive   the archives, proved and built: target/staticlib/liborderset_c.a, liborderset2_c.a and
+#                  liborderset_log_c.a, joined of those that rt lib makes of each static library of crates.txt   (rt ar)
 #   make lib       one library of the archives and the handle: target/lib/liborderset.a and liborderset.so.1   (gcc)
 #   make test      the tests of docs/TESTS.md                     (gcc g++ python3 pkg-config cargo groff); SEED=... repeats
 #                  a run; SAN=address,undefined or SAN=thread: with these sanitizers
 #   make planted   that each test fails where a fault is planted                     (gcc g++ python3 pkg-config cargo)
-#   make fuzz      any bytes as files of the set and of the log, for the handles and the tools, a minute each  (clang)
+#   make fuzz      any bytes as files of the set and of the log, for the handles, the tools and the command, a minute
+#                  each                                                                               (clang)
 #   make fix       the FIX gateway of examples/fix, tested with a client of its own               (g++ libquickfix-dev)
 #   make gateway   the example: a new file, orders, a restart, and the orders again                   (gcc)
 #   make recorder  the example of the log: a new file, messages, a restart, and the last messages     (gcc)
-#   make install   headers, library, orderset.pc, manual pages, tools and, where python3 is, its module, below
-#                  $(DESTDIR)$(PREFIX)                                                                (gcc)
+#   make install   headers, library, orderset.pc, manual pages, tools, the command and, where python3 is, its module,
+#                  below $(DESTDIR)$(PREFIX)                                                          (gcc)
 #   make uninstall the same away
 #   make format    the C and C++ sources as clang-format writes them (.clang-format)                  (clang-format 14)
 #   make refusals  what comes from src/refusals.def: the enum, the manual page's table, and so on          (python3)
@@ -21,7 +22,14 @@
 RT ?= rt
 OUT := target/c
 LIB := target/lib
-ARCHIVES := $(shell sed -n 's|^\([a-z0-9_]*_c\) staticlib:.*|target/staticlib/lib\1.a|p' crates.txt)
+# of each static library of crates.txt one
+PARTS := $(shell sed -n 's|^\([a-z0-9_]*_c\) staticlib:.*|target/parts/lib\1.a|p' crates.txt)
+PARTS2 := $(filter target/parts/liborderset2_%,$(PARTS))
+LOG_PARTS := $(filter target/parts/liborderset_log_%,$(PARTS))
+ARCHIVE := target/staticlib/liborderset_c.a
+ARCHIVE2 := target/staticlib/liborderset2_c.a
+LOG_ARCHIVE := target/staticlib/liborderset_log_c.a
+ARCHIVES := $(ARCHIVE2) $(ARCHIVE) $(LOG_ARCHIVE)
 PLUG := crates/plug/out/plug
 REPORT := crates/report/out/report
 CRATES := crates.txt $(shell find crates -name out -prune -o \( -name '*.rt' -o -name '*.antt' \) -print)
@@ -56,17 +64,24 @@ CPLUS := $(CXX) $(WARNINGS) -Iinclude -Itests $(CXXFLAGS)
 LINK := $(CC) $(CFLAGS) $(LDFLAGS)
 LINK_CPLUS := $(CXX) $(CXXFLAGS) $(LDFLAGS)
 
-.PHONY: archive lib tools test planted fix gateway recorder install uninstall refusals heads bench
+.PHONY: archive lib tools command test planted fix gateway recorder install uninstall refusals heads bench
 .NOTPARALLEL:
 lib: $(LIB)/liborderset.a $(LIB)/liborderset.so.1
 
 # ---- the proved archives
 
 archive: $(ARCHIVES)
-$(ARCHIVES): target/staticlib/lib%.a: $(CRATES)
+$(PARTS): target/parts/lib%.a: $(CRATES)
 	cd crates/$* && $(RT) lib
 	@mkdir -p $(@D)
 	cp crates/$*/out/lib$*.a $@
+$(ARCHIVE): $(filter-out $(PARTS2) $(LOG_PARTS),$(PARTS))
+$(ARCHIVE2): $(PARTS2)
+$(LOG_ARCHIVE): $(LOG_PARTS)
+$(ARCHIVES):
+	@mkdir -p $(@D)
+	rm -f $@
+	printf '%s\n' 'create $@' $(^:%='addlib %') save end | ar -M
 # a program as rt run makes it, on what stands beside its src/, or as rt ci left it
 $(PLUG) $(REPORT): crates/%: $(CRATES)
 	cd crates/$(*D:/out=) && $(RT) run <stdin >/dev/null
@@ -104,13 +119,19 @@ $(LIB)/liborderset.so.1: $(LIB)/liborderset.a src/orderset.map
 	$(LINK) -shared -Wl,-soname,$(@F) -Wl,--version-script=src/orderset.map -Wl,-z,defs,-z,now,-z,relro,-z,noexecstack \
 		-Wl,-Bsymbolic -Wl,--whole-archive $< -Wl,--no-whole-archive -pthread -o $@
 
-# ---- the command and the examples
+# ---- the tools, the command and the examples
+
+TOOLS := orderset-show orderset-check
+tools: $(TOOLS:%=$(OUT)/%)
+$(OUT)/orderset-show: $(OUT)/o/tools/picture.o
+$(TOOLS:%=$(OUT)/%): $(OUT)/%: $(OUT)/o/tools/%.o $(OUT)/o/tools/tool.o $(LIB)/liborderset.a
+	$(LINK) $(filter %.o,$^) $(LIB)/liborderset.a -pthread -o $@
 
 # the command stands on the objects of the handles, whose internal header it uses
-TOOL := $(OUT)/orderset
-TOOL_SOURCES := $(wildcard tools/*.c)
-tools: $(TOOL)
-$(TOOL): $(TOOL_SOURCES:%.c=$(OUT)/o/%.o) $(HANDLE) $(ARCHIVES)
+COMMAND := $(OUT)/orderset
+COMMAND_SOURCES := $(wildcard command/*.c)
+command: $(COMMAND)
+$(COMMAND): $(COMMAND_SOURCES:%.c=$(OUT)/o/%.o) $(HANDLE) $(ARCHIVES)
 	$(LINK) $^ -pthread -o $@
 
 EXAMPLES := first gateway recorder raw sender
@@ -233,12 +254,13 @@ $(OUT)/preload.so: tests/preload.c
 
 RUNS := names header persist lock watch heads report report2 plug storm storm2 kills kills2 guard guard2 differential \
 	differential2 reads reads2 log_header log_storm log_kills log_guard log_differential file file_storm cancel live snapshot \
-	stored tools install programs cxx17 cxx20 cxx17_plain standards rust python fix
+	stored tools command install programs cxx17 cxx20 cxx17_plain standards rust python fix
 # With a sanitizer these are left out: what compiles no C of this tree anew; what looks at single instructions; of address a
-# thread that is cancelled, whose stack it does not know to be gone; of thread the interpreter of Python, which it ends
+# thread that is cancelled, whose stack it does not know to be gone; of thread the interpreter of Python, which it ends, and
+# programs with a library that is loaded before it
 ifneq ($(SAN),)
 RUNS := $(filter-out names install rust fix persist reads reads2 $(if $(findstring address,$(SAN)),cancel) \
-	$(if $(findstring thread,$(SAN)),python),$(RUNS))
+	$(if $(findstring thread,$(SAN)),python tools),$(RUNS))
 endif
 .PHONY: $(RUNS:%=run-%) run-cxx
 test: $(RUNS:%=run-%)
@@ -249,12 +271,12 @@ run-header run-log_header run-standards: run-%: $(OUT)/%
 SEEDED := persist guard guard2 storm storm2 differential differential2 reads reads2 log_storm log_guard log_differential
 $(SEEDED:%=run-%): run-%: $(OUT)/%
 	@$(OUT)/$* $(SEED)
-run-heads: run-%: $(OUT)/% $(TOOL)
-	@$(OUT)/$* $(TOOL) $(OUT)/$*.img $(SEED)
+run-heads: run-%: $(OUT)/% $(OUT)/orderset-show $(COMMAND)
+	@$(OUT)/$* $(OUT)/orderset-show $(COMMAND) $(OUT)/$*.img $(SEED)
 run-watch: $(OUT)/watch $(OUT)/sender
 	@$(OUT)/watch $(OUT)/sender $(OUT)/watch.img $(SEED)
-run-report run-report2: run-%: $(OUT)/% $(TOOL) $(REPORT)
-	@$(OUT)/$* $(REPORT) $(TOOL) $(OUT)/$*.img $(SEED)
+run-report run-report2: run-%: $(OUT)/% $(OUT)/orderset-show $(COMMAND) $(REPORT)
+	@$(OUT)/$* $(REPORT) $(OUT)/orderset-show $(COMMAND) $(OUT)/$*.img $(SEED)
 run-plug: $(OUT)/plug $(PLUG)
 	@$(OUT)/plug $(PLUG) $(OUT)/plug.trace $(SEED)
 run-kills run-kills2: run-%: $(OUT)/% $(OUT)/gateway $(OUT)/gateway_on_disk
@@ -268,11 +290,13 @@ $(OUT)/stored: $(OUT)/o/tests/stored.o $(LIB)/liborderset.a
 run-stored: $(OUT)/stored
 	@mkdir -p $(OUT)/stored_work
 	@$(OUT)/stored tests/stored/1.0.0 $(OUT)/stored_work
-run-tools: $(TOOL) $(OUT)/gateway $(OUT)/recorder $(OUT)/preload.so $(PLUG)
-	@tests/tools.py $(OUT) $(PLUG)
-run-programs: $(EXAMPLES:%=$(OUT)/%) $(TOOL) $(OUT)/preload.so
+run-tools: $(TOOLS:%=$(OUT)/%) $(OUT)/preload.so
+	@tests/tools.py $(OUT)
+run-command: $(COMMAND) $(OUT)/gateway $(OUT)/recorder $(OUT)/preload.so $(PLUG)
+	@tests/command.py $(OUT) $(PLUG)
+run-programs: $(EXAMPLES:%=$(OUT)/%) $(TOOLS:%=$(OUT)/%) $(COMMAND) $(OUT)/preload.so
 	@tests/programs.py $(OUT)
-run-install: lib tools
+run-install: lib tools command
 	@tests/install.py
 run-cxx: $(CXX_TESTS:%=run-%) run-standards
 $(CXX_TESTS:%=run-%): run-%: $(OUT)/%
@@ -303,25 +327,32 @@ planted: $(ARCHIVES) $(REPORT) $(PLUG)
 
 FUZZ := target/fuzz
 FUZZ_TIME ?= 60
-FUZZ_C = clang -std=c11 -g -O1 -fsanitize=fuzzer,address,undefined -fno-sanitize-recover=all -Iinclude -Isrc -Itools -Itests/fuzz
+FUZZ_C = clang -std=c11 -g -O1 -fsanitize=fuzzer,address,undefined -fno-sanitize-recover=all -Iinclude -Isrc -Itests/fuzz
 FUZZED := tests/fuzz/fuzz.c $(HANDLE_SOURCES:%=src/%.c)
 .PHONY: fuzz
-fuzz: $(FUZZ)/fuzz_open $(FUZZ)/fuzz_log $(FUZZ)/fuzz_tools $(OUT)/gateway $(OUT)/recorder
+fuzz: $(FUZZ)/fuzz_open $(FUZZ)/fuzz_log $(FUZZ)/fuzz_tools $(FUZZ)/fuzz_command $(OUT)/gateway $(OUT)/recorder
 	rm -rf $(FUZZ)/sets $(FUZZ)/logs && mkdir -p $(FUZZ)/sets $(FUZZ)/logs
 	for layout in 1 2; do $(OUT)/gateway $(FUZZ)/sets/$$layout make 6 $$layout && $(OUT)/gateway $(FUZZ)/sets/$$layout new 1 5 new 2 5 \
 		acknowledge 1 withdraw 2 basket 2 new 3 1 new 4 1 >/dev/null || exit 1; done
 	$(OUT)/recorder $(FUZZ)/logs/log make 3 && seq 9 | $(OUT)/recorder $(FUZZ)/logs/log >/dev/null
 	cd $(FUZZ) && ./fuzz_open -max_total_time=$(FUZZ_TIME) -max_len=1024 -rss_limit_mb=4096 sets
 	cd $(FUZZ) && ./fuzz_log -max_total_time=$(FUZZ_TIME) -max_len=1792 -rss_limit_mb=4096 logs
-	cd $(FUZZ) && ASAN_OPTIONS=detect_leaks=0 ./fuzz_tools -detect_leaks=0 -max_total_time=$(FUZZ_TIME) -max_len=1024 -rss_limit_mb=4096 sets
+	for end in tools command; do (cd $(FUZZ) && ASAN_OPTIONS=detect_leaks=0 ./fuzz_$$end -detect_leaks=0 \
+		-max_total_time=$(FUZZ_TIME) -max_len=1024 -rss_limit_mb=4096 sets) || exit 1; done
 $(FUZZ)/fuzz_open $(FUZZ)/fuzz_log: $(FUZZ)/%: tests/fuzz/%.c $(FUZZED) tests/fuzz/fuzz.h src/internal.h $(wildcard include/*.h) $(ARCHIVES)
 	@mkdir -p $(@D)
 	$(FUZZ_C) $(filter %.c,$^) $(ARCHIVES) -pthread -o $@
-$(FUZZ)/fuzz_tools: tests/fuzz/fuzz_tools.c $(FUZZED) $(wildcard tools/*.c tools/*.h include/*.h) src/internal.h $(ARCHIVES)
+$(FUZZ)/fuzz_tools: tests/fuzz/fuzz_tools.c $(FUZZED) $(wildcard tools/*.c tools/*.h include/*.h) $(ARCHIVES)
 	@mkdir -p $(@D)
-	for tool in $(basename $(notdir $(TOOL_SOURCES))); do \
-		$(FUZZ_C) -Dmain=tool_main -Dexit=fuzz_exit -c tools/$$tool.c -o $(FUZZ)/$$tool.o || exit 1; done
-	$(FUZZ_C) tests/fuzz/fuzz_tools.c $(FUZZED) $(patsubst tools/%.c,$(FUZZ)/%.o,$(TOOL_SOURCES)) $(ARCHIVES) -pthread -o $@
+	for tool in check show; do $(FUZZ_C) -Dmain=$${tool}_main -Dexit=fuzz_exit -c tools/orderset-$$tool.c -o $(FUZZ)/$$tool.o || exit 1; done
+	$(FUZZ_C) -Dexit=fuzz_exit -c tools/tool.c -o $(FUZZ)/tool.o
+	$(FUZZ_C) -Dexit=fuzz_exit -c tools/picture.c -o $(FUZZ)/picture.o
+	$(FUZZ_C) -Itools tests/fuzz/fuzz_tools.c $(FUZZED) $(FUZZ)/check.o $(FUZZ)/show.o $(FUZZ)/tool.o $(FUZZ)/picture.o $(ARCHIVES) -pthread -o $@
+$(FUZZ)/fuzz_command: tests/fuzz/fuzz_command.c $(FUZZED) $(wildcard command/*.c command/*.h include/*.h) src/internal.h $(ARCHIVES)
+	@mkdir -p $(@D)/command
+	for part in $(basename $(notdir $(COMMAND_SOURCES))); do \
+		$(FUZZ_C) -Dmain=tool_main -Dexit=fuzz_exit -c command/$$part.c -o $(FUZZ)/command/$$part.o || exit 1; done
+	$(FUZZ_C) -Icommand tests/fuzz/fuzz_command.c $(FUZZED) $(COMMAND_SOURCES:%.c=$(FUZZ)/%.o) $(ARCHIVES) -pthread -o $@
 
 # ---- where it goes
 
@@ -333,7 +364,7 @@ TO = $(DESTDIR)$(PREFIX)
 TO_LIB = $(DESTDIR)$(LIBDIR)
 TO_PYTHON = $(DESTDIR)$(PYTHONDIR)/orderset
 PYTHON_FILES := __init__.py py.typed
-install: lib tools
+install: lib tools command
 	install -d "$(TO)/bin" "$(TO)/include" "$(TO_LIB)/pkgconfig" "$(TO)/share/man/man1" "$(TO)/share/man/man3" \
 		"$(TO)/share/doc/orderset"
 	install -m 644 $(HEADERS:%=include/%) "$(TO)/include"
@@ -343,7 +374,7 @@ install: lib tools
 	ln -sf liborderset.so.1 "$(TO_LIB)/liborderset.so"
 	sed 's|@PREFIX@|$(PREFIX)|; s|@LIBDIR@|$(LIBDIR)|; s|@VERSION@|$(VERSION)|' src/orderset.pc.in \
 		>"$(TO_LIB)/pkgconfig/orderset.pc"
-	install -m 755 $(TOOL) "$(TO)/bin"
+	install -m 755 $(TOOLS:%=$(OUT)/%) $(COMMAND) "$(TO)/bin"
 	install -m 644 man/*.1 "$(TO)/share/man/man1"
 	install -m 644 man/*.3 "$(TO)/share/man/man3"
 	install -m 644 $(DOCUMENTS) "$(TO)/share/doc/orderset"
@@ -351,13 +382,14 @@ install: lib tools
 		install -m 644 $(PYTHON_FILES:%=bindings/python/orderset/%) "$(TO_PYTHON)"; }
 
 uninstall:
-	rm -f "$(TO)/bin/orderset" $(HEADERS:%="$(TO)/include/%") \
+	rm -f $(TOOLS:%="$(TO)/bin/%") "$(TO)/bin/$(notdir $(COMMAND))" $(HEADERS:%="$(TO)/include/%") \
 		$(patsubst man/%,"$(TO)/share/man/man1/%",$(wildcard man/*.1)) \
 		$(patsubst man/%,"$(TO)/share/man/man3/%",$(wildcard man/*.3)) $(DOCUMENTS:docs/%="$(TO)/share/doc/orderset/%")
 	rm -f "$(TO_LIB)/liborderset.a" "$(TO_LIB)/liborderset.so" "$(TO_LIB)/liborderset.so.1" \
 		"$(TO_LIB)/liborderset.so.$(VERSION)" "$(TO_LIB)/pkgconfig/orderset.pc"
 	rm -f $(PYTHON_FILES:%="$(TO_PYTHON)/%") "$(TO_PYTHON)"/__pycache__/__init__.*.pyc
-	for folder in "$(TO)/share/doc/orderset" "$(TO_PYTHON)/__pycache__" "$(TO_PYTHON)"; do \
+	[ ! -d "$(TO)/share/doc/orderset" ] || rmdir --ignore-fail-on-non-empty "$(TO)/share/doc/orderset"
+	for folder in "$(TO_PYTHON)/__pycache__" "$(TO_PYTHON)"; do \
 		[ ! -d "$$folder" ] || rmdir --ignore-fail-on-non-empty "$$folder"; done
 
 # ---- measurements
@@ -372,4 +404,4 @@ bench: $(ARCHIVES)
 .PHONY: format
 format:
 	@command -v clang-format >/dev/null || { echo "make format: clang-format 14 is not there" >&2; exit 1; }
-	clang-format -i $(wildcard $(foreach d,bench examples examples/fix include src tests tests/fuzz tools,$(d)/*.c $(d)/*.h $(d)/*.cc $(d)/*.hpp $(d)/*.inc))
+	clang-format -i $(wildcard $(foreach d,bench command examples examples/fix include src tests tests/fuzz tools,$(d)/*.c $(d)/*.h $(d)/*.cc $(d)/*.hpp $(d)/*.inc))

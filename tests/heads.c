@@ -1,9 +1,10 @@
-/* What `orderset check --heads[=B] FILE` prints, against a plain count of the keys by their heads: of the keys that
+/* What `orderset-show --heads[=B] FILE` prints, against a plain count of the keys by their heads: of the keys that
  * share a head one is found with 1 slot compared, one with 2, and so on. The files hold any number of keys, from none
  * to as many as there is room for; the keys are small, random, or step by B, and some were replaced or removed. The
- * file stays as it is. Ends with status 1 at the first thing that is otherwise.
+ * file stays as it is. The same of `orderset check --heads[=B] FILE`, which indents these lines. Ends with status 1 at
+ * the first thing that is otherwise.
  *
- *     heads ORDERSET FILE [SEED]
+ *     heads SHOW ORDERSET FILE [SEED]
  */
 #define _GNU_SOURCE
 #include <fcntl.h>
@@ -19,7 +20,7 @@
 
 enum { FILES = 60, MAX_N = 1000, OWN_HEADS = 97 };
 
-static const char *tool, *file;
+static const char *show, *command, *file;
 static uint64_t runs;
 
 /* ---- a file */
@@ -97,14 +98,29 @@ static int file_is_image(void) {
 
 /* ---- what is printed */
 
-static void says(struct child *child, const char *wanted) {
+/* The two programs: what they are called where one says something else, what stands before each line of theirs, and
+ * what they say of a number of heads that is none. */
+struct program {
+    const char *name, *indent, *out_of_range;
+};
+static const struct program by_show = {"it", "", "a number of heads is from 1 to 65536"},
+                            by_command = {"orderset check", "  ", "--heads is followed by a number from 1 to 65536"};
+
+static struct child start(const struct program *by, const char *option) {
+    const char *const show_words[] = {show, option, file, NULL}, *const words[] = {command, "check", option, file,
+                                                                                   NULL};
+    return start_child(by == &by_show ? show_words : words);
+}
+
+static void says(struct child *child, const struct program *by, const char *wanted) {
+    const size_t in = strlen(by->indent);
     char line[LINE];
-    expect(hear(child, line) && !strncmp(line, "  ", 2) && !strcmp(line + 2, wanted),
-           "of %" PRIu32 " keys in %" PRIu32 " slots it says '%s': '%s'", count, n, wanted, line);
+    expect(hear(child, line) && !strncmp(line, by->indent, in) && !strcmp(line + in, wanted),
+           "of %" PRIu32 " keys in %" PRIu32 " slots %s says '%s': '%s'", count, n, by->name, wanted, line);
 }
 
 /* The j-th key of a head is found with j slots compared. */
-static void says_counts(struct child *child, size_t b) {
+static void says_counts(struct child *child, const struct program *by, size_t b) {
     static uint32_t sharing[ORDERSET_HEADS_MAX], found[MAX_N + 1];
     char wanted[LINE];
     uint64_t sum = 0;
@@ -118,24 +134,30 @@ static void says_counts(struct child *child, size_t b) {
         longest = place > longest ? place : longest;
     }
     snprintf(wanted, sizeof wanted, "%zu heads", b);
-    says(child, wanted);
+    says(child, by, wanted);
     for (uint32_t place = 1; place <= longest; place++) {
         snprintf(wanted, sizeof wanted, "%" PRIu32 " compared: %" PRIu32 " held keys", place, found[place]);
-        says(child, wanted);
+        says(child, by, wanted);
     }
     snprintf(wanted, sizeof wanted, "average %.2f, longest %" PRIu32, count ? (double)sum / count : 0, longest);
-    says(child, wanted);
+    says(child, by, wanted);
+}
+
+static void counts_by(const struct program *by, size_t b, const char *option) {
+    char line[LINE];
+    struct child child = start(by, option);
+    if (by == &by_command)
+        expect(hear(&child, line) && strstr(line, ": accepted, "), "the file is accepted: '%s'", line);
+    says_counts(&child, by, b);
+    expect(!hear(&child, line), "that is all: '%s'", line);
+    expect(end_of(&child) == 0, "heads ends with status 0");
+    expect(file_is_image(), "heads leaves the file as it was");
 }
 
 /* b: the heads that it is to take; option: --heads with the B that it is given, or without one. */
 static void counts(size_t b, const char *option) {
-    char line[LINE];
-    struct child child = start_child((const char *const[]){tool, "check", option, file, NULL});
-    expect(hear(&child, line) && strstr(line, ": accepted, "), "the file is accepted: '%s'", line);
-    says_counts(&child, b);
-    expect(!hear(&child, line), "that is all: '%s'", line);
-    expect(end_of(&child) == 0, "heads ends with status 0");
-    expect(file_is_image(), "heads leaves the file as it was");
+    counts_by(&by_show, b, option);
+    counts_by(&by_command, b, option);
     runs++;
 }
 
@@ -152,19 +174,24 @@ static int is_prime(uint32_t x) {
     return divisor == x;
 }
 
-static void refuses(const char *option) {
+static void refuses_by(const struct program *by, const char *option) {
     char line[LINE];
-    struct child child = start_child((const char *const[]){tool, "check", option, file, NULL});
-    expect(hear(&child, line) && strstr(line, "--heads is followed by a number from 1 to 65536"), "%s is refused: '%s'",
-           option, line);
+    struct child child = start(by, option);
+    expect(hear(&child, line) && strstr(line, by->out_of_range), "%s is refused: '%s'", option, line);
     expect(end_of(&child) == 2 && file_is_image(), "then its status is 2 and the file is as it was");
 }
 
+static void refuses(const char *option) {
+    refuses_by(&by_show, option);
+    refuses_by(&by_command, option);
+}
+
 int main(int words, char **word) {
-    begin_chance("heads", words > 3 ? word[3] : NULL);
-    expect(words > 2, "heads ORDERSET FILE [SEED]");
-    tool = word[1];
-    file = word[2];
+    begin_chance("heads", words > 4 ? word[4] : NULL);
+    expect(words > 3, "heads SHOW ORDERSET FILE [SEED]");
+    show = word[1];
+    command = word[2];
+    file = word[3];
     for (int i = 0; i < FILES; i++) {
         size_t step = (size_t)spread(1, ORDERSET_HEADS_MAX);
         uint32_t own;

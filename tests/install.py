@@ -13,7 +13,7 @@ import sys
 import tempfile
 
 ROOT = os.path.join(os.path.dirname(os.path.abspath(__file__)), "..")
-ARCHIVES = [f"target/staticlib/lib{name}.a" for name in re.findall(r"^(\w+_c) staticlib:", open(f"{ROOT}/crates.txt").read(), re.M)]
+ARCHIVES = [f"target/staticlib/lib{name}.a" for name in ("orderset_c", "orderset2_c", "orderset_log_c")]
 PREFIX = "/opt/orderset"
 PYTHON = f"lib/python{sys.version_info[0]}.{sys.version_info[1]}/site-packages"
 count = 0
@@ -97,6 +97,7 @@ def installed(folder):
     make("install", f"DESTDIR={folder}", f"PREFIX={PREFIX}")
     due = {f"include/{os.path.basename(p)}" for p in glob.glob("include/*")}
     due |= {f"share/man/man{p[-1]}/{os.path.basename(p)}" for p in glob.glob("man/*.[13]")}
+    due |= {f"bin/{os.path.basename(p)[:-2]}" for p in glob.glob("tools/orderset-*.c")}
     due |= {"bin/orderset"}
     due |= {f"lib/{n}" for n in ("liborderset.a", "liborderset.so", "liborderset.so.1", "pkgconfig/orderset.pc")}
     due |= {f"share/doc/orderset/{name}" for name in ("OPERATIONS.md", "HEADS.md", "picture.svg")}
@@ -211,11 +212,12 @@ fn main() -> orderset::Result<()> {
 
 
 def stored(folder, work, how):
-    """What the program of C reads, and what orderset shows, in processes of their own."""
+    """What the program of C reads, and what orderset-show and orderset say, in processes of their own."""
     so(run("./reader", cwd=work) == "1: a message\n", f"a message that {how} appended is there",
        run("./reader", cwd=work))
-    shown = run(f"{folder}{PREFIX}/bin/orderset", "show", "own.img", cwd=work)
-    so(shown == "7: 5 bytes 736576656e\n", f"an order that {how} inserted is there", shown)
+    for words in ["orderset-show"], ["orderset", "show"]:
+        shown = run(f"{folder}{PREFIX}/bin/{words[0]}", *words[1:], "own.img", cwd=work)
+        so(shown == "7: 5 bytes 736576656e\n", f"an order that {how} inserted is there", shown)
     for name in "own.img", "own.log":
         os.remove(f"{work}/{name}")
 
@@ -306,6 +308,7 @@ def as_printed(folder):
     for i, text in enumerate(expected):
         so(i < len(seen) and (seen[i] == text or text == ""), f"the commands print what README says:\n{text}", seen)
     so(os.path.exists(f"{home}/first/first.svg"), "README's picture is made")
+    so(os.path.exists(f"{home}/first/second.svg"), "README's picture by the command is made")
 
 
 # ---- documents beside the headers

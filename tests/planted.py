@@ -17,10 +17,10 @@ import sys
 import tempfile
 
 ROOT = os.path.join(os.path.dirname(os.path.abspath(__file__)), "..")
-ARCHIVES = [f"target/staticlib/lib{name}.a" for name in re.findall(r"^(\w+_c) staticlib:", open(f"{ROOT}/crates.txt").read(), re.M)]
+ARCHIVES = [f"target/staticlib/lib{name}.a" for name in ("orderset_c", "orderset2_c", "orderset_log_c")]
 PROGRAMS = ["crates/report/out/report", "crates/plug/out/plug"]
 BUILT = [*ARCHIVES, *PROGRAMS]
-PARTS = "Makefile crates.txt README.md include src examples tests tools man docs bindings".split()
+PARTS = "Makefile crates.txt README.md include src examples tests tools command man docs bindings".split()
 
 
 class Edit:

@@ -141,6 +141,9 @@ def little_stack(programs):
                 ((), "recovered 1"):
             seen = programs.run("gateway", path, *words, limit=limit)
             so(seen[0] == 0 and says in seen[1], f"with 256 KB of stack gateway {words} works", seen)
+        for word, says in ("--heads", "longest 1"), ("--count", "1 live"):
+            seen = programs.run("orderset-show", word, path, limit=limit)
+            so(seen[0] == 0 and says in seen[1], f"with 256 KB of stack orderset-show {word} works", seen)
         for words, says in (("check", "--heads"), "longest 1"), (("show", "--count"), "1 live"), \
                 (("copy", programs.path("copy")), "made with 1"):
             seen = programs.run("orderset", words[0], path, words[1], limit=limit)

@@ -1,10 +1,10 @@
 /* What the program `report` prints, byte for byte, against the model: of random images one after another, accepted,
  * damaged and cut short, from a file, through a pipe and in pieces of 100 bytes; of the fewest and the most slots; and
- * of a million and more. What `orderset show --count FILE` prints of the first image. Built for layout 2 (layout.h),
- * `report` refuses each image and orderset counts its slots. Ends with status 1 at the first thing that is
- * otherwise.
+ * of a million and more. What `orderset-show --count FILE` and `orderset show --count FILE` print of the first image.
+ * Built for layout 2 (layout.h), `report` refuses each image and both count its slots. Ends with status 1 at the first
+ * thing that is otherwise.
  *
- *     report REPORT ORDERSET FILE [SEED [INPUTS]]
+ *     report REPORT SHOW ORDERSET FILE [SEED [INPUTS]]
  */
 #define _GNU_SOURCE
 #include <fcntl.h>
@@ -21,7 +21,7 @@
 
 enum { INPUTS = 1000, LEAST = 2, MOST = 511, IMAGES = 40, MILLION = 1000000, COUNTS = 6 };
 
-static const char *report, *tool, *file;
+static const char *report, *show, *command, *file;
 static uint64_t images, refusals, cuts; /* images read, of them refused; inputs that end in what is no image */
 
 /* ---- an input */
@@ -169,9 +169,21 @@ static void reads_a_million(void) {
     expect(end_of(&child) == 0, "it ends");
 }
 
-/* orderset's count of the first image says what the model does. */
+/* A program's count of the first image says what the model does. */
+static void counts(const char *name, const char *const words[], int refusal, const char *wanted) {
+    char line[LINE];
+    struct child child = start_child(words);
+    expect(hear(&child, line), "%s counts", name);
+    if (refusal)
+        expect(strstr(line, wanted) != NULL, "%s says '%s': '%s'", name, wanted, line);
+    else
+        expect(!strcmp(line, wanted), "%s says '%s': '%s'", name, wanted, line);
+    expect(end_of(&child) == (refusal ? 1 : 0), "its status");
+}
+
 static void show_counts(void) {
-    const char *const words[] = {tool, "show", "--count", file, NULL};
+    const char *const show_words[] = {show, "--count", file, NULL};
+    const char *const words[] = {command, "show", "--count", file, NULL};
     uint32_t head[1], next[MOST + 1];
     uint64_t n = m_word(input, 0), c[COUNTS];
     if (length < 8 || n < LEAST || n > MOST || length < 128 * (n + 1))
@@ -179,22 +191,19 @@ static void show_counts(void) {
     const size_t size = 128 * (n + 1);
     struct m_index index = {head, 1, next, n + 1, {0, 0, 0, 0, 0}};
     struct m_recovered recovered = m_recover(input, size, &index);
-    char line[LINE], wanted[LINE];
+    char wanted[LINE];
     write_file(input, size);
-    struct child child = start_child(words);
-    expect(hear(&child, line), "orderset show counts");
     if (recovered.refusal) {
         snprintf(wanted, sizeof wanted, "refused, no %d", recovered.refusal);
-        expect(strstr(line, wanted) != NULL, "orderset show says '%s': '%s'", wanted, line);
     } else {
         m_count(input, size, &recovered, c);
         snprintf(wanted, sizeof wanted,
                  "%" PRIu64 " live, %" PRIu64 " hidden, %" PRIu64 " removed, %" PRIu64 " void, %" PRIu64
                  " broken, %" PRIu64 " empty",
                  c[0], c[1], c[2], c[3], c[4], c[5]);
-        expect(!strcmp(line, wanted), "orderset show says '%s': '%s'", wanted, line);
     }
-    expect(end_of(&child) == (recovered.refusal ? 1 : 0), "its status");
+    counts("orderset-show", show_words, recovered.refusal, wanted);
+    counts("orderset show", words, recovered.refusal, wanted);
 }
 
 /* Whole, in the blocks of a pipe, and in pieces that do not end where a word does. */
@@ -203,13 +212,14 @@ static const char *const ways[WAYS] = {"exec \"$0\" <\"$1\" 2>/dev/null", "cat \
                                        "dd bs=100 if=\"$1\" 2>/dev/null | \"$0\" 2>/dev/null"};
 
 int main(int count, char **word) {
-    if (count < 4)
+    if (count < 5)
         return 2;
-    const uint64_t wanted = count > 5 ? strtoull(word[5], NULL, 10) : INPUTS;
+    const uint64_t wanted = count > 6 ? strtoull(word[6], NULL, 10) : INPUTS;
     report = word[1];
-    tool = word[2];
-    file = word[3];
-    begin_chance(LAYOUT == 1 ? "report" : "report of layout 2", count > 4 ? word[4] : NULL);
+    show = word[2];
+    command = word[3];
+    file = word[4];
+    begin_chance(LAYOUT == 1 ? "report" : "report of layout 2", count > 5 ? word[5] : NULL);
     if (LAYOUT == 1)
         reads_limits();
     for (uint64_t k = 0; k < wanted; k++) {

@@ -1,12 +1,14 @@
-/* A picture of the slots of a set. */
 #define _GNU_SOURCE
-#include "tool.h"
+#include "picture.h"
 
 #include <inttypes.h>
 #include <stdlib.h>
 #include <string.h>
 
 enum { MARGIN = 24, LABELS = 52, LINE = 20, WIDTH = 720, TITLED = 4096, LETTERED = 16, NUMBERED = 40, RINGS = 9 };
+
+const char picture_begins[] =
+    "<?xml version=\"1.0\" encoding=\"UTF-8\"?>\n<!-- orderset-show: the slots of a set -->\n";
 
 /* Told apart with each kind of colour blindness (a distance of 30 or more in CIE L*a*b*), and most of them in grey. */
 static const struct look {
@@ -36,26 +38,42 @@ static struct grid grid_for(uint32_t slots) {
     return grid;
 }
 
+static void put_escaped(FILE *out, const char *text) {
+    for (; *text; text++) {
+        const unsigned char byte = (unsigned char)*text;
+        if (byte == '&' || byte == '<' || byte == '>')
+            fprintf(out, "&#%u;", (unsigned)byte);
+        else
+            fputc(byte < ' ' || byte > '~' ? '?' : byte, out);
+    }
+}
+
+static void put_text(FILE *out, uint32_t x, uint32_t y, const char *attributes, const char *text) {
+    fprintf(out, "<text x=\"%" PRIu32 "\" y=\"%" PRIu32 "\"%s>", x, y, attributes);
+    put_escaped(out, text);
+    fputs("</text>\n", out);
+}
+
 /* The name of the file, the numbers of its header, and what recovery refuses. Answers where they end. */
 static uint32_t draw_numbers(const struct tool *d, FILE *out) {
     const char *slash = strrchr(d->path, '/');
     char line[400];
     uint32_t y = MARGIN + 14;
-    svg_text(out, MARGIN, y, " font-size=\"18\" font-weight=\"bold\"", slash ? slash + 1 : d->path);
+    put_text(out, MARGIN, y, " font-size=\"18\" font-weight=\"bold\"", slash ? slash + 1 : d->path);
     int used = snprintf(line, sizeof line, "layout %" PRIu32 "   N %" PRIu32 "   %" PRIu64 " bytes", d->is.layout,
                         d->is.slots, d->is.bytes);
     if (!d->is.refusal)
         snprintf(line + used, sizeof line - (size_t)used,
                  "   live %" PRIu32 "   spare %" PRIu32 "   next version %" PRIu64, d->is.live, d->is.spare,
                  d->is.next_version);
-    svg_text(out, MARGIN, y += 24, " xml:space=\"preserve\"", line);
+    put_text(out, MARGIN, y += 24, " xml:space=\"preserve\"", line);
     if (d->is.refusal) {
         snprintf(line, sizeof line,
                  d->is.fault_slot ? "Recovery refuses it: no %" PRIu32 ", slot %" PRIu32 ":"
                                   : "Recovery refuses it: no %" PRIu32 ":",
                  d->is.refusal, d->is.fault_slot);
-        svg_text(out, MARGIN, y += 24, " font-weight=\"bold\"", line);
-        svg_text(out, MARGIN, y += LINE, "", orderset_strerror(d->is.refusal));
+        put_text(out, MARGIN, y += 24, " font-weight=\"bold\"", line);
+        put_text(out, MARGIN, y += LINE, "", orderset_strerror(d->is.refusal));
     }
     return y;
 }
@@ -70,10 +88,10 @@ static uint32_t draw_legend(const struct tool *d, FILE *out, uint32_t y) {
             break;
         y += LINE;
         fprintf(out, "<path d=\"M%d %" PRIu32 "h13v13h-13z\" fill=\"%s\"/>\n", MARGIN, y - 11, look[i].fill);
-        svg_text(out, MARGIN + 22, y, " font-weight=\"bold\"", tool_class[i]);
+        put_text(out, MARGIN + 22, y, " font-weight=\"bold\"", tool_class[i]);
         snprintf(count, sizeof count, "%" PRIu64, slots);
-        svg_text(out, MARGIN + 140, y, " text-anchor=\"end\"", count);
-        svg_text(out, MARGIN + 156, y, "", look[i].meaning);
+        put_text(out, MARGIN + 140, y, " text-anchor=\"end\"", count);
+        put_text(out, MARGIN + 156, y, "", look[i].meaning);
     }
     return y;
 }
@@ -86,7 +104,7 @@ static void put_title(FILE *out, uint32_t layout, const struct orderset_record *
         tool_print_slot(memory, layout, record);
     if (memory && fclose(memory) == 0) {
         fputs("<title>", out);
-        svg_escaped(out, text);
+        put_escaped(out, text);
         fputs("</title>", out);
     }
     free(text);
@@ -103,12 +121,12 @@ static void label_square(FILE *out, const struct grid *grid, const struct orders
              l->text);
     const uint32_t below = grid->pitch >= NUMBERED ? 7 : 0; /* the number of the slot */
     if (*l->letter)
-        svg_text(out, middle, y + grid->pitch / 2 + size / 3 + below, attributes, l->letter);
+        put_text(out, middle, y + grid->pitch / 2 + size / 3 + below, attributes, l->letter);
     if (grid->pitch < NUMBERED)
         return;
     snprintf(attributes, sizeof attributes, " font-size=\"12\" text-anchor=\"middle\" fill=\"%s\"", l->text);
     snprintf(number, sizeof number, "%" PRIu32, r->slot);
-    svg_text(out, middle, y + 16, attributes, number);
+    put_text(out, middle, y + 16, attributes, number);
 }
 
 static void draw_slot(const struct tool *d, FILE *out, const struct grid *grid, const struct orderset_record *r) {
@@ -138,7 +156,7 @@ static void label_row(FILE *out, const struct grid *grid, uint32_t slot) {
     if ((slot - 1) % grid->columns || row % every)
         return;
     snprintf(number, sizeof number, "%" PRIu32, slot);
-    svg_text(out, grid->left - 8, grid->top + row * grid->pitch + (grid->pitch + 9) / 2,
+    put_text(out, grid->left - 8, grid->top + row * grid->pitch + (grid->pitch + 9) / 2,
              " font-size=\"12\" text-anchor=\"end\"", number);
 }
 
@@ -165,7 +183,7 @@ static void draw_ring(FILE *out, const struct grid *grid, const struct orderset_
 static void draw_slots(struct tool *d, FILE *out, const struct grid *grid) {
     struct orderset_record record, ringed[RINGS];
     uint32_t rings = 0;
-    tool_step("slots drawn", d->is.slots);
+    tool_step(d->tool, "slots drawn", d->is.slots);
     for (uint32_t slot = 1; slot <= d->is.slots; slot++) {
         tool_slot(d, slot, &record);
         label_row(out, grid, slot);
@@ -185,7 +203,12 @@ void draw_picture(struct tool *d, FILE *out) {
     const uint32_t rows = (d->is.slots + grid.columns - 1) / grid.columns;
     const uint32_t wide = grid.left + grid.columns * grid.pitch + MARGIN, width = wide > WIDTH ? wide : WIDTH;
     const uint32_t height = grid.top + rows * grid.pitch + MARGIN;
-    svg_begin(out, width, height);
+    fputs(picture_begins, out);
+    fprintf(out,
+            "<svg xmlns=\"http://www.w3.org/2000/svg\" width=\"%" PRIu32 "\" height=\"%" PRIu32
+            "\" viewBox=\"0 0 %" PRIu32 " %" PRIu32 "\" font-family=\"sans-serif\" font-size=\"14\">\n"
+            "<path d=\"M0 0h%" PRIu32 "v%" PRIu32 "h-%" PRIu32 "z\" fill=\"#ffffff\"/>\n",
+            width, height, width, height, width, height, width);
     draw_legend(d, out, draw_numbers(d, out));
     draw_slots(d, out, &grid);
     fputs("</svg>\n", out);
