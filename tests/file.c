@@ -504,7 +504,8 @@ static void no_set_in(uint32_t wanted, const char *what) {
 static void wrong_files(void) {
     static uint8_t bytes[ORDERSET_IMAGE_BYTES(FEW_SLOTS)];
     new_set(FEW_SLOTS, 1 + (uint32_t)below(2));
-    no_set(4, ORDERSET_BAD_MODE, "an open in mode 4");
+    no_set(3, ORDERSET_BAD_MODE, "an open in mode 3");
+    no_set(5, ORDERSET_BAD_MODE, "an open in mode 5");
     truncate(path, ORDERSET_IMAGE_BYTES(FEW_SLOTS - 1)) ? expect(0, "truncate") : (void)0;
     no_set_in(3, "a set without its last slot");
     write_file(bytes, 0);
@@ -1107,7 +1108,8 @@ static void wrong_logs(void) {
     no_log_in(ORDERSET_NOT_A_LOG, "a file of random bytes");
     new_set(6, 1);
     no_log_in(ORDERSET_NOT_A_LOG, "a set of six slots, as long as a log of two cells");
-    no_log(4, ORDERSET_BAD_MODE, "an open in mode 4");
+    no_log(3, ORDERSET_BAD_MODE, "an open in mode 3");
+    no_log(5, ORDERSET_BAD_MODE, "an open in mode 5");
 }
 
 /* A set of 7 m - 1 slots is as long as a log of 2 m cells, and neither is the other, whatever it holds. */
