@@ -874,12 +874,13 @@ static void void_slots(uint32_t layout) {
     set = open_set(READ);
     shows_one(set, 0, 3, "a reader of half a basket");
     orderset_close(set);
+    holds(is_unchanged(&before), "a reader leaves void slots in the file");
     set = open_set(ORDERSET_LIVE);
     shows_one(set, 0, 3, "a live look at half a basket");
     holds(statistics_of(set).mode == ORDERSET_LIVE && statistics_of(set).opened == 2,
           "a live look opens its void slots");
     orderset_close(set);
-    holds(is_unchanged(&before), "a reader and a live look leave void slots in the file");
+    holds(is_unchanged(&before), "a live look leaves void slots in the file");
     set = open_set(WRITE);
     shows_one(set, 0, 3, "a writer of half a basket");
     holds(statistics_of(set).opened == 2, "a writer opens void slots");
@@ -961,8 +962,9 @@ static void words(void) {
     const uint64_t good[3] = {2, 9, 4}, bad[3] = {2, 9, 9};
     for (uint32_t i = 0; i <= 33; i++)
         holds(!strcmp(orderset_strerror(i), none) == (i == 12 || i == 16), "each number of the papers has words");
-    for (uint32_t i = ORDERSET_ERRNO; i <= ORDERSET_BUSY; i++)
+    for (uint32_t i = ORDERSET_ERRNO; i <= ORDERSET_BAD_MODE; i++)
         holds(strcmp(orderset_strerror(i), none) != 0, "each number of the handles has words");
+    holds(strcmp(orderset_strerror(ORDERSET_BUSY), none) != 0, "and so has the one of a live look");
     for (uint32_t i = ORDERSET_NOT_FOUND; i <= ORDERSET_END; i++)
         holds(strcmp(orderset_strerror(i), none) != 0, "each answer of the handles has words");
     holds(!strcmp(orderset_version(), ORDERSET_VERSION_STRING), "the library is of the version of its header");
