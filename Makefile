@@ -248,7 +248,7 @@ $(OUT)/standards: tests/standards.cc include/orderset.hpp include/orderset.h $(L
 
 $(OUT)/preload.so: tests/preload.c
 	@mkdir -p $(@D)
-	$(C) -fPIC -shared $< -o $@
+	$(C) -fPIC -shared $< -ldl -o $@
 
 # ---- the runs, in this order
 

@@ -197,8 +197,8 @@ enum orderset_mode {
     ORDERSET_INSPECT = 2, /* a copy for the support desk, void slots as they are in the file; also where recovery
                              refuses it: then each call but slot, layout, count, room, compared, errno, stat and close
                              is refused by that number. Of a log it is ORDERSET_READ */
-    ORDERSET_LIVE = 3     /* as ORDERSET_READ, without the lock: a file that a gateway has open, as it is at one moment;
-                             it may show the call in flight before that call is durable */
+    ORDERSET_LIVE = 4     /* as ORDERSET_READ, without the lock: a file that a gateway has open, as it is at one moment;
+                             it may show the call in flight before that call is durable. 3 is no mode */
 };
 
 /* How a call becomes durable. */

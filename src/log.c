@@ -74,7 +74,7 @@ static uint32_t open_log(const char *path, const uint8_t *bytes, size_t length, 
 
 uint32_t orderset_log_open(const char *path, uint32_t mode, struct orderset_log **log) {
     *log = NULL;
-    if (mode > ORDERSET_LIVE)
+    if (mode > ORDERSET_INSPECT && mode != ORDERSET_LIVE)
         return ORDERSET_BAD_MODE;
     const int cancel = hold_cancel();
     const uint32_t number = open_log(path, NULL, 0, mode, log);

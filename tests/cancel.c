@@ -43,7 +43,7 @@ enum {
     NAME = 1024,
     BYTES = 128 * (MOST_SLOTS + 1)
 };
-enum { READ = ORDERSET_READ, WRITE = ORDERSET_WRITE, LIVE = ORDERSET_LIVE };
+enum { READ = ORDERSET_READ, WRITE = ORDERSET_WRITE, INSPECT = ORDERSET_INSPECT };
 
 static const char *path;
 static uint64_t cancelled, held_back, cuts, done_unanswered, answered;
@@ -489,8 +489,10 @@ static void calls_on_files(void) {
         }
         on_lines = 0;
         at_every_point("a snapshot", open_then_snapshot, do_snapshot, 0);
-        for (mode = READ; mode <= LIVE; mode++)
+        for (mode = READ; mode <= INSPECT; mode++)
             at_every_point("an open", no_preparation, do_open, 0);
+        mode = ORDERSET_LIVE;
+        at_every_point("a live look", no_preparation, do_open, 0);
         mode = WRITE;
         at_every_point("an open of a set as a log", no_preparation, do_open_log, ORDERSET_BAD_LOG_LENGTH);
         const int held = __real_open(path, O_RDONLY | O_CLOEXEC);
@@ -500,8 +502,10 @@ static void calls_on_files(void) {
     }
     length = ORDERSET_LOG_BYTES(CELLS);
     at_every_point("create of a log", remove_file, do_create_log, 0);
-    for (mode = READ; mode <= LIVE; mode++)
+    for (mode = READ; mode <= INSPECT; mode++)
         at_every_point("an open of a log", no_preparation, do_open_log, 0);
+    mode = ORDERSET_LIVE;
+    at_every_point("a live look at a log", no_preparation, do_open_log, 0);
     mode = WRITE;
     at_every_point("close of a log", open_log_then_close, do_close_log, 0);
     at_every_point("an open of a log as a set", no_preparation, do_open, ORDERSET_NOT_FORMATTED);

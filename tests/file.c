@@ -504,7 +504,8 @@ static void no_set_in(uint32_t wanted, const char *what) {
 static void wrong_files(void) {
     static uint8_t bytes[ORDERSET_IMAGE_BYTES(FEW_SLOTS)];
     new_set(FEW_SLOTS, 1 + (uint32_t)below(2));
-    no_set(4, ORDERSET_BAD_MODE, "an open in mode 4");
+    no_set(3, ORDERSET_BAD_MODE, "an open in mode 3");
+    no_set(5, ORDERSET_BAD_MODE, "an open in mode 5");
     truncate(path, ORDERSET_IMAGE_BYTES(FEW_SLOTS - 1)) ? expect(0, "truncate") : (void)0;
     no_set_in(3, "a set without its last slot");
     write_file(bytes, 0);
@@ -873,12 +874,13 @@ static void void_slots(uint32_t layout) {
     set = open_set(READ);
     shows_one(set, 0, 3, "a reader of half a basket");
     orderset_close(set);
+    holds(is_unchanged(&before), "a reader leaves void slots in the file");
     set = open_set(ORDERSET_LIVE);
     shows_one(set, 0, 3, "a live look at half a basket");
     holds(statistics_of(set).mode == ORDERSET_LIVE && statistics_of(set).opened == 2,
           "a live look opens its void slots");
     orderset_close(set);
-    holds(is_unchanged(&before), "a reader and a live look leave void slots in the file");
+    holds(is_unchanged(&before), "a live look leaves void slots in the file");
     set = open_set(WRITE);
     shows_one(set, 0, 3, "a writer of half a basket");
     holds(statistics_of(set).opened == 2, "a writer opens void slots");
@@ -960,8 +962,9 @@ static void words(void) {
     const uint64_t good[3] = {2, 9, 4}, bad[3] = {2, 9, 9};
     for (uint32_t i = 0; i <= 33; i++)
         holds(!strcmp(orderset_strerror(i), none) == (i == 12 || i == 16), "each number of the papers has words");
-    for (uint32_t i = ORDERSET_ERRNO; i <= ORDERSET_BUSY; i++)
+    for (uint32_t i = ORDERSET_ERRNO; i <= ORDERSET_BAD_MODE; i++)
         holds(strcmp(orderset_strerror(i), none) != 0, "each number of the handles has words");
+    holds(strcmp(orderset_strerror(ORDERSET_BUSY), none) != 0, "and so has the one of a live look");
     for (uint32_t i = ORDERSET_NOT_FOUND; i <= ORDERSET_END; i++)
         holds(strcmp(orderset_strerror(i), none) != 0, "each answer of the handles has words");
     holds(!strcmp(orderset_version(), ORDERSET_VERSION_STRING), "the library is of the version of its header");
@@ -1107,7 +1110,8 @@ static void wrong_logs(void) {
     no_log_in(ORDERSET_NOT_A_LOG, "a file of random bytes");
     new_set(6, 1);
     no_log_in(ORDERSET_NOT_A_LOG, "a set of six slots, as long as a log of two cells");
-    no_log(4, ORDERSET_BAD_MODE, "an open in mode 4");
+    no_log(3, ORDERSET_BAD_MODE, "an open in mode 3");
+    no_log(5, ORDERSET_BAD_MODE, "an open in mode 5");
 }
 
 /* A set of 7 m - 1 slots is as long as a log of 2 m cells, and neither is the other, whatever it holds. */

@@ -20,7 +20,7 @@
 #include "model.h"
 #include "orderset_raw.h"
 
-enum { CALLS = 5000000, MOST = 1002, ROOM = 1100, LINES = 7, EVERY = 800, SHOWN = 4 };
+enum { CALLS = 6250000, MOST = 1002, ROOM = 1100, LINES = 7, EVERY = 800, SHOWN = 4 };
 enum which { APPEND, AFTER, RECOVER, READ, WHICH };
 static const char *const name[WHICH] = {"append", "append_after", "recover", "read"};
 
@@ -287,7 +287,7 @@ static void append_in_history(void) {
     unsigned stores[LINES], combinations = 1;
     size_t size = any_message(area, cells, message), needed = below(2) ? ORDERSET_LOG_STORES : 8 + below(20);
     /* by either call: the number of messages is what recovery and the last append answered */
-    if (below(2) ? append(message, size, any_list(needed), any_list(needed))
+    if (below(5) ? append(message, size, any_list(needed), any_list(needed))
                  : append_after(plain_count, message, size, any_list(needed), any_list(needed)))
         return;
     count_lines(stores);
@@ -375,7 +375,7 @@ static void append_to(const struct view *before) {
     uint8_t message[LONGEST];
     unsigned stores[LINES];
     size_t size = any_message(area, cells, message);
-    if (below(2) ? append(message, size, ORDERSET_LOG_STORES, ORDERSET_LOG_STORES)
+    if (below(5) ? append(message, size, ORDERSET_LOG_STORES, ORDERSET_LOG_STORES)
                  : append_after(before->highest, message, size, ORDERSET_LOG_STORES, ORDERSET_LOG_STORES))
         return;
     count_lines(stores);
@@ -402,23 +402,24 @@ static void laws(void) {
     append_to(&before);
 }
 
-/* Any call that hands out stores; append_after is lent any number. */
-static uint32_t any_handing(size_t lists) {
+static void any_call(void) {
     uint8_t message[LONGEST];
-    const size_t size = any_message(area, cells, message);
-    switch (below(3)) {
-    case 0: return recover(any_list(lists), any_list(lists));
-    case 1: return append(message, size, any_list(ORDERSET_LOG_STORES), any_list(ORDERSET_LOG_STORES));
-    default:
-        return append_after(any_last(area, cells), message, size, any_list(ORDERSET_LOG_STORES),
-                            any_list(ORDERSET_LOG_STORES));
-    }
+    size_t size = any_message(area, cells, message), lists = cells ? cells : 3;
+    uint64_t kind = below(4);
+    if (kind == 0)
+        read_message(any_number(area, cells));
+    else if (kind == 1 ? recover(any_list(lists), any_list(lists)) == 0
+                       : append(message, size, any_list(ORDERSET_LOG_STORES), any_list(ORDERSET_LOG_STORES)) == 0)
+        for (size_t i = 0, some = below(3); i < answer[ORDERSET_PROVED_LOG_COUNT]; i++)
+            if (some == 0 || below(some + 1))
+                make_store(i);
 }
 
-static void any_call(void) {
-    if (below(4) == 0)
-        read_message(any_number(area, cells));
-    else if (any_handing(cells ? cells : 3) == 0)
+/* append_after, which is lent any number. */
+static void any_after(void) {
+    uint8_t message[LONGEST];
+    const size_t size = any_message(area, cells, message), places = any_list(ORDERSET_LOG_STORES);
+    if (append_after(any_last(area, cells), message, size, places, any_list(ORDERSET_LOG_STORES)) == 0)
         for (size_t i = 0, some = below(3); i < answer[ORDERSET_PROVED_LOG_COUNT]; i++)
             if (some == 0 || below(some + 1))
                 make_store(i);
@@ -436,8 +437,11 @@ static void other_area(void) {
     memcpy(kept, area, length + 64);
     if (cells && below(2))
         laws();
-    for (int i = 0; i < 8; i++)
+    for (int i = 0; i < 8; i++) {
         any_call();
+        if (below(4) == 0)
+            any_after();
+    }
 }
 
 /* ---- directed cases: K = 2 unless it is said otherwise, answers by hand */

@@ -16,7 +16,7 @@
 #include "orderset_raw.h"
 #include "pieces.h"
 
-enum { CALLS = 2000000, WORD = 8, NUMBER = 4 };
+enum { CALLS = 3000000, WORD = 8, NUMBER = 4 };
 enum which { APPEND, AFTER, RECOVER, READ, WHICH };
 static uint64_t answers[WHICH][2]; /* [0] not refused, [1] refused */
 

@@ -1,6 +1,7 @@
 // The log of orderset_raw.h in C++, with all archives in one program: an area of zeros is made durable and recovered,
 // messages are appended, made durable and read, more than the area keeps; an empty message, one that is too long and a
-// list that is too short are refused and store nothing; after an append that was cut, recovery opens its line.
+// list that is too short are refused and store nothing; after an append that was cut, recovery opens its line. Then
+// messages are appended by either call.
 #include <cstdio>
 #include <cstring>
 #include <vector>
@@ -66,7 +67,6 @@ bool refused_stores_nothing() {
     uint64_t answer[ORDERSET_PROVED_LOG_ANSWER];
     return append(text.data(), 0) == ORDERSET_BAD_MESSAGE && stores.refusal == ORDERSET_BAD_MESSAGE
            && append(text.data(), text.size()) == ORDERSET_BAD_MESSAGE
-           && orderset_raw_log_append_after(&log, UINT64_MAX, "x", 1, &stores) == ORDERSET_EXHAUSTED
            && orderset_raw_log_append(&shorter, "x", 1, &stores) == ORDERSET_BAD_LOG_LENGTH
            && orderset_proved_log_append(area, sizeof area, before.data(), 1, stores.at, 7, stores.value,
                                          ORDERSET_LOG_STORES, answer)
@@ -76,10 +76,9 @@ bool refused_stores_nothing() {
 
 // Five messages in four cells: the last three are shown.
 bool keeps_the_last() {
-    return appends("new 7 100", 1) && reads(1, "new 7 100") && appends_after(1, "acknowledge 7")
-           && appends("fill 7 40", 3) && reads(1, "new 7 100") && appends("fill 7 60", 4) && not_shown(1)
-           && appends("new 8 5", 5) && not_shown(2) && reads(3, "fill 7 40") && reads(4, "fill 7 60")
-           && reads(5, "new 8 5") && not_shown(6) && not_shown(0);
+    return appends("new 7 100", 1) && reads(1, "new 7 100") && appends("acknowledge 7", 2) && appends("fill 7 40", 3)
+           && reads(1, "new 7 100") && appends("fill 7 60", 4) && not_shown(1) && appends("new 8 5", 5) && not_shown(2)
+           && reads(3, "fill 7 40") && reads(4, "fill 7 60") && reads(5, "new 8 5") && not_shown(6) && not_shown(0);
 }
 
 // The marked line of message 6 is there, its payload is not: it is opened, and the number is given again.
@@ -90,14 +89,35 @@ bool survives_a_cut() {
            && reads(3, "fill 7 40") && appends("show 8", 6) && reads(6, "show 8");
 }
 
+// Refused by append_after too; there is no number above the last one.
+bool after_is_refused() {
+    const std::vector<uint8_t> before(area, area + sizeof area);
+    const orderset_raw_log shorter = {area, sizeof area - 1};
+    return orderset_raw_log_append_after(&log, UINT64_MAX, "x", 1, &stores) == ORDERSET_EXHAUSTED
+           && stores.refusal == ORDERSET_EXHAUSTED
+           && orderset_raw_log_append_after(&log, 0, "x", 0, &stores) == ORDERSET_BAD_MESSAGE
+           && orderset_raw_log_append_after(&shorter, 0, "x", 1, &stores) == ORDERSET_BAD_LOG_LENGTH
+           && !std::memcmp(area, before.data(), sizeof area);
+}
+
+// Messages 7 to 10 by either call.
+bool appends_by_either() {
+    return appends_after(6, "new 9 2") && reads(7, "new 9 2") && appends("acknowledge 9", 8)
+           && appends_after(8, "fill 9 1") && appends_after(9, "fill 9 1") && not_shown(7) && reads(8, "acknowledge 9")
+           && reads(9, "fill 9 1") && reads(10, "fill 9 1") && not_shown(11) && recovers(10, 0);
+}
+
 // What is not as it should be, or null.
 const char *fault() {
     return !starts()                   ? "an empty log"
            : !refused_stores_nothing() ? "refusals of an empty log"
+           : !after_is_refused()       ? "refusals of append_after by an empty log"
            : !keeps_the_last()         ? "the last messages"
            : !refused_stores_nothing() ? "refusals"
            : !survives_a_cut()         ? "a cut"
            : !recovers(6, 0)           ? "the end"
+           : !after_is_refused()       ? "refusals of append_after"
+           : !appends_by_either()      ? "append_after"
                                        : nullptr;
 }
 

@@ -148,9 +148,9 @@ static struct m_handed hand_out(const struct stores *s, uint64_t number, struct 
 }
 
 /* "30 is tested first, and in an append 29, then 9 for a number of 2^63 or more, then 13". "Messages are padded with
- * zeros". "Stores, the marked line's first". The number is one above the last one, which is lent and may be any. */
-struct m_handed m_append_after(const uint8_t *area, size_t length, uint64_t last, const uint8_t *message, size_t size,
-                               struct m_lists lists) {
+ * zeros and numbered one above the highest complete number, from 1." "Stores, the marked line's first". */
+struct m_handed m_append(const uint8_t *area, size_t length, const uint8_t *message, size_t size,
+                         struct m_lists lists) {
     struct stores s = {.count = 0};
     uint8_t padded[M_MESSAGE] = {0};
     size_t cells = m_cells(length);
@@ -158,20 +158,30 @@ struct m_handed m_append_after(const uint8_t *area, size_t length, uint64_t last
         return no(30);
     if (size < 1 || size > M_MESSAGE)
         return no(29);
-    if (last >= INT64_MAX)
+    uint64_t number = m_highest(area, cells) + 1;
+    if (number >= 1ull << 63)
         return no(9);
-    uint64_t number = last + 1;
     memcpy(padded, message, size);
     store_marked(&s, area, number % cells, padded, size, number);
     store_payload(&s, area, number % cells, padded);
     return hand_out(&s, number, lists);
 }
 
-/* "numbered one above the highest complete number, from 1" */
-struct m_handed m_append(const uint8_t *area, size_t length, const uint8_t *message, size_t size,
-                         struct m_lists lists) {
-    size_t cells = m_cells(length);
-    return m_append_after(area, length, cells ? m_highest(area, cells) : 0, message, size, lists);
+/* The same refusals and stores; the number is one above the last one, which is lent and may be any. */
+struct m_handed m_append_after(const uint8_t *area, size_t length, uint64_t last, const uint8_t *message, size_t size,
+                               struct m_lists lists) {
+    struct stores s = {.count = 0};
+    uint8_t payload[M_MESSAGE] = {0};
+    const size_t cells = m_cells(length);
+    if (!cells || size == 0 || size > M_MESSAGE)
+        return no(cells ? 29 : 30);
+    if (last >= INT64_MAX)
+        return (struct m_handed){.refusal = 9};
+    uint64_t number = last + 1;
+    memcpy(payload, message, size);
+    store_marked(&s, area, number % cells, payload, size, number);
+    store_payload(&s, area, number % cells, payload);
+    return hand_out(&s, number, lists);
 }
 
 /* ---- recovery and read */

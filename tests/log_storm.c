@@ -18,7 +18,7 @@
 #include "chance.h"
 #include "orderset_raw.h"
 
-enum { MAX_CELLS = ORDERSET_LOG_CELLS_MAX, MOST = ORDERSET_LOG_MESSAGE_MAX, STRIKES = 1000000 };
+enum { MAX_CELLS = ORDERSET_LOG_CELLS_MAX, MOST = ORDERSET_LOG_MESSAGE_MAX, STRIKES = 1250000 };
 
 static uint64_t histories, strikes, cuts, kills, in_start, in_opening, in_append, answered, opened;
 
@@ -151,9 +151,9 @@ static void refused_append(void) {
         lost("an append that is to be refused");
 }
 
-/* By either call: the number of messages is what recovery and the last append answered. */
+/* By either call, append_after in one of five: the number of messages is what recovery and the last append answered. */
 static uint32_t append_message(const struct message *m) {
-    if (below(2))
+    if (below(5))
         return orderset_proved_log_append(visible, length, m->bytes, m->size, at, MAX_CELLS, value, MAX_CELLS, answer);
     return orderset_proved_log_append_after(visible, length, messages, m->bytes, m->size, at, MAX_CELLS, value,
                                             MAX_CELLS, answer);

@@ -323,8 +323,21 @@ static void no_calls_stores(enum orderset_flush flush) {
 
 /* ---- lists of stores */
 
-/* Some stores on each of some lines: all words in order, or mostly words 0 up to one. */
+/* Some stores on each of some lines: mostly words 0 up to one, in order. */
 static size_t any_list(void) {
+    size_t count = 0;
+    for (uint64_t lines = below(9); lines > 0; lines--) {
+        uint32_t first = 8 * (uint32_t)below(LINES), words = 1 + (uint32_t)below(8);
+        for (uint32_t i = 0; i < words; i++) {
+            list_at[count] = first + (below(8) ? i : (uint32_t)below(8));
+            list_value[count++] = chance();
+        }
+    }
+    return count;
+}
+
+/* The same, where half of the lines have all words, in order. */
+static size_t any_lines(void) {
     size_t count = 0;
     for (uint64_t lines = below(9); lines > 0; lines--) {
         const int whole = below(2) == 0;
@@ -471,6 +484,8 @@ static void outside(size_t length, enum orderset_flush flush) {
 static void all_lists(enum orderset_flush flush) {
     for (int i = 0; i < LISTS; i++)
         persist_list(any_list(), flush, i < LISTS_WATCHED);
+    for (int i = 0; i < LISTS; i++)
+        persist_list(any_lines(), flush, i < LISTS_WATCHED);
     for (int i = 0; i < 1000; i++)
         outside(below(2) ? LENGTH : LENGTH - 1 - below(63), flush);
     for (uint32_t voids = 0; voids < 8; voids++)
@@ -548,9 +563,9 @@ static void sync_errors(uint8_t *mapped) {
 }
 
 /* Each page of a list is synced, where its stores stand together once. */
-static void list_in_file(uint8_t *mapped, int file) {
+static void list_in_file(uint8_t *mapped, int file, size_t count) {
     uint8_t held[LENGTH];
-    size_t count = any_list(), pages = 0;
+    size_t pages = 0;
     memcpy(played, mapped, LENGTH);
     expect(orderset_proved_play_list(played, LENGTH, list_at, count, list_value, count) == ORDERSET_OK,
            "play takes a list");
@@ -605,7 +620,9 @@ static void fallback(void) {
         insert_in_file(mapped, fileno(file), key);
     sync_errors(mapped);
     for (int i = 0; i < 1000; i++)
-        list_in_file(mapped, fileno(file));
+        list_in_file(mapped, fileno(file), any_list());
+    for (int i = 0; i < 1000; i++)
+        list_in_file(mapped, fileno(file), any_lines());
     whole_file(mapped, fileno(file));
     fclose(file);
 }

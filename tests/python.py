@@ -419,7 +419,7 @@ def files(folder):
     refused(1012, Log.create, path, 6)
     refused(1018, Log, path)
     refused(1013, Set, folder)
-    for mode in 7, (1 << 32) - 1:
+    for mode in 3, 5, 7, (1 << 32) - 1:
         refused(1020, Set, path, mode)
         refused(1020, Log, path, mode)
     with Set(path, Mode.WRITE) as orders:

@@ -99,6 +99,7 @@ static void takes_snapshot(struct orderset *set, const struct plain *p) {
 }
 
 static void random_changes(uint32_t layout) {
+    static const uint32_t modes[] = {ORDERSET_READ, ORDERSET_WRITE, ORDERSET_INSPECT, ORDERSET_LIVE};
     static struct plain now, later;
     make_plain(&now, (uint32_t)(2 + below(60)), layout);
     unlink(path);
@@ -121,8 +122,8 @@ static void random_changes(uint32_t layout) {
         }
     }
     orderset_close(set);
-    for (uint32_t mode = ORDERSET_READ; mode <= ORDERSET_LIVE; mode++) {
-        set = open_file(path, mode);
+    for (size_t i = 0; i < sizeof modes / sizeof *modes; i++) {
+        set = open_file(path, modes[i]);
         takes_snapshot(set, &now);
         orderset_close(set);
     }

@@ -203,7 +203,7 @@ class Mode(_Numbers):
     INSPECT = 2
     """A copy for the support desk, also of a file that recovery refuses: then each call but slot, statistics, count,
     room, layout, compared and close is refused by that number. Of a log it is READ."""
-    LIVE = 3
+    LIVE = 4
     """As READ, without the lock: a file that a gateway has open, as it is at one moment. It may show the call in flight
     before that call is durable. Number.BUSY: the file is written too fast."""
 

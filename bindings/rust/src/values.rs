@@ -188,7 +188,7 @@ numbered! {
         Inspect = 2,
         /// As [`Mode::Read`], without the lock: a file that a gateway has open, as it is at one moment. It may show the
         /// call in flight before that call is durable, and is refused where the file is never still for a second.
-        Live = 3,
+        Live = 4,
     }
 
     /// How a call becomes durable: by msync, or on non-volatile memory by line flushes and a fence.
