@@ -20,11 +20,12 @@
 #include "model.h"
 #include "orderset_raw.h"
 
-enum { CALLS = 6250000, MOST = 1002, ROOM = 1100, LINES = 7, EVERY = 800, SHOWN = 4 };
+enum { CALLS = 7500000, MOST = 1002, ROOM = 1100, LINES = 7, EVERY = 800, SHOWN = 4 };
 enum which { APPEND, AFTER, RECOVER, READ, WHICH };
 static const char *const name[WHICH] = {"append", "append_after", "recover", "read"};
 
 static uint64_t calls, histories, cuts, in_recovery, every;
+static uint64_t alone;                   /* so many calls come before the first of append_after */
 static uint64_t met[WHICH][32], opening; /* met: by the answer; opening: recoveries that hand out stores */
 static const char *phase = "";
 
@@ -286,9 +287,9 @@ static void append_in_history(void) {
     uint8_t message[LONGEST];
     unsigned stores[LINES], combinations = 1;
     size_t size = any_message(area, cells, message), needed = below(2) ? ORDERSET_LOG_STORES : 8 + below(20);
-    /* by either call: the number of messages is what recovery and the last append answered */
-    if (below(5) ? append(message, size, any_list(needed), any_list(needed))
-                 : append_after(plain_count, message, size, any_list(needed), any_list(needed)))
+    /* the number of messages is what recovery and the last append answered */
+    if (calls < alone || below(2) ? append(message, size, any_list(needed), any_list(needed))
+                                  : append_after(plain_count, message, size, any_list(needed), any_list(needed)))
         return;
     count_lines(stores);
     for (size_t line = 0; line < LINES && combinations <= EVERY; line++)
@@ -375,8 +376,9 @@ static void append_to(const struct view *before) {
     uint8_t message[LONGEST];
     unsigned stores[LINES];
     size_t size = any_message(area, cells, message);
-    if (below(5) ? append(message, size, ORDERSET_LOG_STORES, ORDERSET_LOG_STORES)
-                 : append_after(before->highest, message, size, ORDERSET_LOG_STORES, ORDERSET_LOG_STORES))
+    if (calls < alone || below(2)
+            ? append(message, size, ORDERSET_LOG_STORES, ORDERSET_LOG_STORES)
+            : append_after(before->highest, message, size, ORDERSET_LOG_STORES, ORDERSET_LOG_STORES))
         return;
     count_lines(stores);
     struct view expected = with_one_more(before, message, size);
@@ -439,7 +441,7 @@ static void other_area(void) {
         laws();
     for (int i = 0; i < 8; i++) {
         any_call();
-        if (below(4) == 0)
+        if (calls >= alone && below(2))
             any_after();
     }
 }
@@ -535,6 +537,7 @@ static void directed_refusals(void) {
 static void directed_after(void) {
     static const uint64_t no_number[] = {INT64_MAX, 1ull << 63, UINT64_MAX};
     const uint8_t message[LONGEST] = {7};
+    phase = "a directed case";
     zeros(3 * M_CELL - 1);
     expect("30 of append_after, before 29, 9 and 13", append_after(UINT64_MAX, message, 0, 0, 0), 30);
     zeros(3 * M_CELL);
@@ -596,7 +599,6 @@ static void directed(void) {
     phase = "a directed case";
     directed_stores();
     directed_refusals();
-    directed_after();
     directed_shown(2);
     directed_shown(5);
     directed_shown(1000);
@@ -616,12 +618,14 @@ static int all_met(void) {
 int main(int count, char **word) {
     uint64_t wanted = count > 2 ? strtoull(word[2], NULL, 10) : CALLS;
     begin_chance("log_differential", count > 1 ? word[1] : NULL);
+    alone = wanted / 3 * 2;
     directed();
     while (calls < wanted)
         if (below(2))
             history();
         else
             other_area();
+    directed_after();
     printf("%" PRIu64 " calls, %" PRIu64 " histories, %" PRIu64 " appends cut, %" PRIu64 " cuts in a recovery, %" PRIu64
            " more by all counts: all the same (%.0f s)\n",
            calls, histories, cuts, in_recovery, every, seconds());

@@ -135,13 +135,25 @@ static void make_stores(void) {
 static void any_call(void) {
     uint8_t message[LONGEST];
     size_t cells = m_cells(piece[AREA].length), size = any_message(w(AREA), cells, message);
-    uint64_t kind = below(6);
+    uint64_t kind = below(4);
     lend_lists(kind == 1 ? cells : ORDERSET_LOG_STORES);
     place(MESSAGE, size);
     memcpy(w(MESSAGE), message, size);
     if (kind == 0)
         call_read(any_number(w(AREA), cells));
-    else if ((kind == 1 ? call_recover() : kind <= 3 ? call_append() : call_append_after()) == 0) {
+    else if ((kind == 1 ? call_recover() : call_append()) == 0) {
+        handed_out();
+        make_stores();
+    }
+}
+
+static void any_after(void) {
+    uint8_t message[LONGEST];
+    size_t size = any_message(w(AREA), m_cells(piece[AREA].length), message);
+    lend_lists(ORDERSET_LOG_STORES);
+    place(MESSAGE, size);
+    memcpy(w(MESSAGE), message, size);
+    if (call_append_after() == 0) {
         handed_out();
         make_stores();
     }
@@ -156,12 +168,16 @@ static int all_met(void) {
 
 int main(int count, char **word) {
     uint64_t wanted = count > 2 ? strtoull(word[2], NULL, 10) : CALLS, refused = 0;
+    const uint64_t alone = wanted / 3 * 2; /* so many calls without append_after */
     begin_chance("log_guard", count > 1 ? word[1] : NULL);
     make_pieces();
     while (calls < wanted) {
         make_area();
-        for (int k = 0; k < 24; k++)
+        for (int k = 0; k < 24; k++) {
             any_call();
+            for (int i = 0; calls >= alone && i < 2; i++)
+                any_after();
+        }
     }
     for (int i = 0; i < WHICH; i++)
         refused += answers[i][1];

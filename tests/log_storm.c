@@ -20,6 +20,7 @@
 
 enum { MAX_CELLS = ORDERSET_LOG_CELLS_MAX, MOST = ORDERSET_LOG_MESSAGE_MAX, STRIKES = 1250000 };
 
+static uint64_t alone; /* so many strikes come before the first call of append_after */
 static uint64_t histories, strikes, cuts, kills, in_start, in_opening, in_append, answered, opened;
 
 /* ---- the plain list of what was answered, and the append that may have been struck */
@@ -151,9 +152,9 @@ static void refused_append(void) {
         lost("an append that is to be refused");
 }
 
-/* By either call, append_after in one of five: the number of messages is what recovery and the last append answered. */
+/* By either call: the number of messages is what recovery and the last append answered. */
 static uint32_t append_message(const struct message *m) {
-    if (below(5))
+    if (strikes < alone || below(2))
         return orderset_proved_log_append(visible, length, m->bytes, m->size, at, MAX_CELLS, value, MAX_CELLS, answer);
     return orderset_proved_log_append_after(visible, length, messages, m->bytes, m->size, at, MAX_CELLS, value,
                                             MAX_CELLS, answer);
@@ -248,6 +249,7 @@ static unsigned any_fuse(void) {
 
 int main(int count, char **word) {
     uint64_t wanted = count > 2 ? strtoull(word[2], NULL, 10) : STRIKES;
+    alone = wanted / 5 * 4;
     begin_chance("log_storm", count > 1 ? word[1] : NULL);
     flush = orderset_best_flush();
     while (strikes < wanted) {
