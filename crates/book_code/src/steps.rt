@@ -4,9 +4,8 @@ ghost use Rattle.interface.specs.Set.{key_with, zipped, index_of};
 ghost use Rattle.book.specs.Steps.{book_end, book_buffers_after, new_result, acknowledge_result, fill_result, withdraw_result};
 
 use book::BookChange;
-use book_change_code::layouts::{
-    acknowledge_in_layout, fill_in_layout, new_in_layout, withdraw_in_layout,
-};
+use book_change_code::change::carry_out_plan;
+use book_plan_code::plans::{acknowledge_plan, fill_plan, new_plan, withdraw_plan};
 use orderset::State;
 
 // A new order of this quantity: the slot taken and the version, the new state and, lent, the stores to be played; or a
@@ -25,8 +24,9 @@ pub fn new(
         ≡ book_buffers_after (zipped at.old words.old)
         (new_result 1 image.now (index_of heads.old next.old state) key quantity) }
 {
-    new_in_layout(
-        image, false, heads, next, state, key, 0, quantity, at, words, false, // a new order
+    let plan = new_plan(image, false, heads, next, key, 0, quantity);
+    carry_out_plan(
+        image, false, heads, next, state, key, 0, plan, at, words, false,
     )
 }
 
@@ -45,7 +45,10 @@ pub fn acknowledge(
         ≡ book_buffers_after (zipped at.old words.old)
         (acknowledge_result 1 image.now (index_of heads.old next.old state) key) }
 {
-    acknowledge_in_layout(image, false, heads, next, state, key, 0, at, words, false)
+    let plan = acknowledge_plan(image, false, heads, next, key, 0);
+    carry_out_plan(
+        image, false, heads, next, state, key, 0, plan, at, words, false,
+    )
 }
 
 // This quantity of the order is filled: an order that is filled fully is removed.
@@ -63,8 +66,9 @@ pub fn fill(
         ≡ book_buffers_after (zipped at.old words.old)
         (fill_result 1 image.now (index_of heads.old next.old state) key quantity) }
 {
-    fill_in_layout(
-        image, false, heads, next, state, key, 0, quantity, at, words, false, // a fill
+    let plan = fill_plan(image, false, heads, next, key, 0, quantity);
+    carry_out_plan(
+        image, false, heads, next, state, key, 0, plan, at, words, false,
     )
 }
 
@@ -82,7 +86,10 @@ pub fn withdraw(
         ≡ book_buffers_after (zipped at.old words.old)
         (withdraw_result 1 image.now (index_of heads.old next.old state) key) }
 {
-    withdraw_in_layout(image, false, heads, next, state, key, 0, at, words, false)
+    let plan = withdraw_plan(image, false, heads, next, key, 0);
+    carry_out_plan(
+        image, false, heads, next, state, key, 0, plan, at, words, false,
+    )
 }
 
 // A new order in layout 2: a key of two words.
@@ -101,8 +108,9 @@ pub fn new2(
         ≡ book_buffers_after (zipped at.old words.old)
         (new_result 2 image.now (index_of heads.old next.old state) (key_with low high) quantity) }
 {
-    new_in_layout(
-        image, true, heads, next, state, low, high, quantity, at, words, false, // a new order
+    let plan = new_plan(image, true, heads, next, low, high, quantity);
+    carry_out_plan(
+        image, true, heads, next, state, low, high, plan, at, words, false,
     )
 }
 
@@ -121,7 +129,10 @@ pub fn acknowledge2(
         ≡ book_buffers_after (zipped at.old words.old)
         (acknowledge_result 2 image.now (index_of heads.old next.old state) (key_with low high)) }
 {
-    acknowledge_in_layout(image, true, heads, next, state, low, high, at, words, false)
+    let plan = acknowledge_plan(image, true, heads, next, low, high);
+    carry_out_plan(
+        image, true, heads, next, state, low, high, plan, at, words, false,
+    )
 }
 
 // A fill in layout 2.
@@ -140,8 +151,9 @@ pub fn fill2(
         ≡ book_buffers_after (zipped at.old words.old)
         (fill_result 2 image.now (index_of heads.old next.old state) (key_with low high) quantity) }
 {
-    fill_in_layout(
-        image, true, heads, next, state, low, high, quantity, at, words, false, // a fill
+    let plan = fill_plan(image, true, heads, next, low, high, quantity);
+    carry_out_plan(
+        image, true, heads, next, state, low, high, plan, at, words, false,
     )
 }
 
@@ -160,5 +172,8 @@ pub fn withdraw2(
         ≡ book_buffers_after (zipped at.old words.old)
         (withdraw_result 2 image.now (index_of heads.old next.old state) (key_with low high)) }
 {
-    withdraw_in_layout(image, true, heads, next, state, low, high, at, words, false)
+    let plan = withdraw_plan(image, true, heads, next, low, high);
+    carry_out_plan(
+        image, true, heads, next, state, low, high, plan, at, words, false,
+    )
 }

@@ -6,9 +6,8 @@ ghost use Rattle.interface.specs.Set.{key_with, zipped, index_of};
 ghost use Rattle.book.specs.Steps.{book_end, book_buffers_after, new_result_by, acknowledge_result_by, fill_result_by, withdraw_result_by};
 
 use book::BookChange;
-use book_change_code::layouts::{
-    acknowledge_in_layout, fill_in_layout, new_in_layout, withdraw_in_layout,
-};
+use book_change_code::change::carry_out_plan;
+use book_plan_code::plans::{acknowledge_plan, fill_plan, new_plan, withdraw_plan};
 use orderset::State;
 
 // A new order of this quantity.
@@ -26,8 +25,9 @@ pub fn own_new(
         ≡ book_buffers_after (zipped at.old words.old)
         (new_result_by true 1 image.now (index_of heads.old next.old state) key quantity) }
 {
-    new_in_layout(
-        image, false, heads, next, state, key, 0, quantity, at, words, true, // a new order
+    let plan = new_plan(image, false, heads, next, key, 0, quantity);
+    carry_out_plan(
+        image, false, heads, next, state, key, 0, plan, at, words, true,
     )
 }
 
@@ -45,7 +45,10 @@ pub fn own_acknowledge(
         ≡ book_buffers_after (zipped at.old words.old)
         (acknowledge_result_by true 1 image.now (index_of heads.old next.old state) key) }
 {
-    acknowledge_in_layout(image, false, heads, next, state, key, 0, at, words, true)
+    let plan = acknowledge_plan(image, false, heads, next, key, 0);
+    carry_out_plan(
+        image, false, heads, next, state, key, 0, plan, at, words, true,
+    )
 }
 
 // This quantity of the order is filled.
@@ -63,8 +66,9 @@ pub fn own_fill(
         ≡ book_buffers_after (zipped at.old words.old)
         (fill_result_by true 1 image.now (index_of heads.old next.old state) key quantity) }
 {
-    fill_in_layout(
-        image, false, heads, next, state, key, 0, quantity, at, words, true, // a fill
+    let plan = fill_plan(image, false, heads, next, key, 0, quantity);
+    carry_out_plan(
+        image, false, heads, next, state, key, 0, plan, at, words, true,
     )
 }
 
@@ -82,7 +86,10 @@ pub fn own_withdraw(
         ≡ book_buffers_after (zipped at.old words.old)
         (withdraw_result_by true 1 image.now (index_of heads.old next.old state) key) }
 {
-    withdraw_in_layout(image, false, heads, next, state, key, 0, at, words, true)
+    let plan = withdraw_plan(image, false, heads, next, key, 0);
+    carry_out_plan(
+        image, false, heads, next, state, key, 0, plan, at, words, true,
+    )
 }
 
 // A new order in layout 2.
@@ -101,8 +108,9 @@ pub fn own_new2(
         ≡ book_buffers_after (zipped at.old words.old)
         (new_result_by true 2 image.now (index_of heads.old next.old state) (key_with low high) quantity) }
 {
-    new_in_layout(
-        image, true, heads, next, state, low, high, quantity, at, words, true, // a new order
+    let plan = new_plan(image, true, heads, next, low, high, quantity);
+    carry_out_plan(
+        image, true, heads, next, state, low, high, plan, at, words, true,
     )
 }
 
@@ -121,7 +129,10 @@ pub fn own_acknowledge2(
         ≡ book_buffers_after (zipped at.old words.old)
         (acknowledge_result_by true 2 image.now (index_of heads.old next.old state) (key_with low high)) }
 {
-    acknowledge_in_layout(image, true, heads, next, state, low, high, at, words, true)
+    let plan = acknowledge_plan(image, true, heads, next, low, high);
+    carry_out_plan(
+        image, true, heads, next, state, low, high, plan, at, words, true,
+    )
 }
 
 // A fill in layout 2.
@@ -140,8 +151,9 @@ pub fn own_fill2(
         ≡ book_buffers_after (zipped at.old words.old)
         (fill_result_by true 2 image.now (index_of heads.old next.old state) (key_with low high) quantity) }
 {
-    fill_in_layout(
-        image, true, heads, next, state, low, high, quantity, at, words, true, // a fill
+    let plan = fill_plan(image, true, heads, next, low, high, quantity);
+    carry_out_plan(
+        image, true, heads, next, state, low, high, plan, at, words, true,
     )
 }
 
@@ -160,5 +172,8 @@ pub fn own_withdraw2(
         ≡ book_buffers_after (zipped at.old words.old)
         (withdraw_result_by true 2 image.now (index_of heads.old next.old state) (key_with low high)) }
 {
-    withdraw_in_layout(image, true, heads, next, state, low, high, at, words, true)
+    let plan = withdraw_plan(image, true, heads, next, low, high);
+    carry_out_plan(
+        image, true, heads, next, state, low, high, plan, at, words, true,
+    )
 }

@@ -1,9 +1,9 @@
 -- Answers of `book_code::steps::acknowledge`.
-use borrow.Author.Rules.{rules}
 use Rattle.interface.proofs.SetLaws.{key_alone}
+use Rattle.book.proofs.Courses.{acknowledge-result}
 use Rattle.book_code.proofs.steps.acknowledge.Goals as goal
 
 -- `book_code::steps::acknowledge` meets its contract. Assumes nothing.
 pub returns : goal.returns
 returns c =
-    record { result = (simp key_alone at c.acknowledge_in_layout.ensures.result) }
+    record { result = (rw (key_alone c.args.key) at (acknowledge-result _ _ _ _ _ _ _ _ c.carry_out_plan.ensures.result c.acknowledge_plan-plan.ensures.plan)) }

@@ -1,9 +1,9 @@
 -- Answers of `book_code::steps::fill`.
-use borrow.Author.Rules.{rules}
 use Rattle.interface.proofs.SetLaws.{key_alone}
+use Rattle.book.proofs.Courses.{fill-result}
 use Rattle.book_code.proofs.steps.fill.Goals as goal
 
 -- `book_code::steps::fill` meets its contract. Assumes nothing.
 pub returns : goal.returns
 returns c =
-    record { result = (simp key_alone at c.fill_in_layout.ensures.result) }
+    record { result = (rw (key_alone c.args.key) at (fill-result _ _ _ _ _ _ _ _ c.carry_out_plan.ensures.result _ c.fill_plan-plan.ensures.plan)) }

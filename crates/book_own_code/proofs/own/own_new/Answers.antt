@@ -1,9 +1,9 @@
 -- Answers of `book_own_code::own::own_new`.
-use borrow.Author.Rules.{rules}
 use Rattle.interface.proofs.SetLaws.{key_alone}
+use Rattle.book.proofs.Courses.{new-result}
 use Rattle.book_own_code.proofs.own.own_new.Goals as goal
 
 -- `book_own_code::own::own_new` meets its contract. Assumes nothing.
 pub returns : goal.returns
 returns c =
-    record { result = (simp key_alone at c.new_in_layout.ensures.result) }
+    record { result = (rw (key_alone c.args.key) at (new-result _ _ _ _ _ _ _ _ c.carry_out_plan.ensures.result _ c.new_plan-plan.ensures.plan)) }
