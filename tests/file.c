@@ -501,11 +501,26 @@ static void no_set_in(uint32_t wanted, const char *what) {
     free(before.bytes);
 }
 
+/* A null path is none. */
+static void no_file(void) {
+    for (uint32_t mode = READ; mode <= INSPECT; mode++) {
+        struct orderset *set;
+        struct orderset_log *log;
+        errno = 0;
+        gives(orderset_open(NULL, mode, &set), ORDERSET_ERRNO, "an open of a set without a path");
+        holds(errno == EFAULT && !set, "an open of a set without a path");
+        errno = 0;
+        gives(orderset_log_open(NULL, mode, &log), ORDERSET_ERRNO, "an open of a log without a path");
+        holds(errno == EFAULT && !log, "an open of a log without a path");
+    }
+}
+
 static void wrong_files(void) {
     static uint8_t bytes[ORDERSET_IMAGE_BYTES(FEW_SLOTS)];
     new_set(FEW_SLOTS, 1 + (uint32_t)below(2));
     no_set(3, ORDERSET_BAD_MODE, "an open in mode 3");
     no_set(5, ORDERSET_BAD_MODE, "an open in mode 5");
+    no_file();
     truncate(path, ORDERSET_IMAGE_BYTES(FEW_SLOTS - 1)) ? expect(0, "truncate") : (void)0;
     no_set_in(3, "a set without its last slot");
     write_file(bytes, 0);
