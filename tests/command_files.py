@@ -8,7 +8,7 @@ import sys
 CLASSES = "live hidden removed void broken empty unknown".split()
 # what the command tells when the machine has so much to do that a step takes a second
 PROGRESS = re.compile(r"^orderset [a-z-]+: (looking at the file|reading the file|recovering the file|counting the slots|"
-                      r"making the file|copying the open orders|reading the text|[a-z ]+, \d+( of \d+)?)\n", re.M)
+                      r"making the file|copying the open orders|reading the text|records tried|[a-z ]+, \d+( of \d+)?)\n", re.M)
 
 
 # ---- files, from document 01's sentences
