@@ -257,7 +257,7 @@ RUNS := names header persist lock watch heads report report2 plug storm storm2 k
 	stored tools command install programs cxx17 cxx20 cxx17_plain standards rust python fix
 # With a sanitizer these are left out: what compiles no C of this tree anew; what looks at single instructions; of address a
 # thread that is cancelled, whose stack it does not know to be gone; of thread the interpreter of Python, which it ends, and
-# programs with a library that is loaded before it
+# tools, which loads preload.so before the sanitizer's library; and fix, since QuickFIX is built without them
 ifneq ($(SAN),)
 RUNS := $(filter-out names install rust fix persist reads reads2 $(if $(findstring address,$(SAN)),cancel) \
 	$(if $(findstring thread,$(SAN)),python tools),$(RUNS))
@@ -404,4 +404,5 @@ bench: $(ARCHIVES)
 .PHONY: format
 format:
 	@command -v clang-format >/dev/null || { echo "make format: clang-format 14 is not there" >&2; exit 1; }
-	clang-format -i $(wildcard $(foreach d,bench command examples examples/fix include src tests tests/fuzz tools,$(d)/*.c $(d)/*.h $(d)/*.cc $(d)/*.hpp $(d)/*.inc))
+	clang-format -i $(wildcard $(foreach d,bench command examples examples/fix include src tests tests/fuzz tools, \
+		$(d)/*.c $(d)/*.h $(d)/*.cc $(d)/*.hpp $(d)/*.inc))

@@ -424,7 +424,7 @@ static uint32_t write_content(int file, const struct content *c) {
 }
 
 /* The file gets its own name, which no other has. Some file systems cannot rename so: there it has two names for a
- * moment. */
+ * moment. orderset-show has the same function; this one is the model. */
 int orderset_give_name(const char *fresh, const char *path) {
     if (renameat2(AT_FDCWD, fresh, AT_FDCWD, path, RENAME_NOREPLACE) == 0)
         return 0;

@@ -3,6 +3,7 @@
 #ifndef ORDERSET_INTERNAL_H
 #define ORDERSET_INTERNAL_H
 
+#include <errno.h>
 #include <pthread.h>
 
 #include "orderset.h"
@@ -67,6 +68,12 @@ uint32_t orderset_on_own_stack(void *(*work)(void *), void *argument);
 
 /* ---- live.c: copies the bytes of a file that another process writes, as they are at one moment; 0 or a number */
 uint32_t orderset_live_copy(int file, uint8_t *bytes, size_t length);
+
+/* An open without a path. */
+static inline uint32_t refuse_no_path(void) {
+    errno = EFAULT;
+    return ORDERSET_ERRNO;
+}
 
 /* ---- set.c and log.c: handles on bytes that were read before, in a mode that does not write */
 uint32_t orderset_open_bytes(const uint8_t *bytes, size_t length, uint32_t mode, struct orderset **set);

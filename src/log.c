@@ -76,12 +76,8 @@ uint32_t orderset_log_open(const char *path, uint32_t mode, struct orderset_log 
     *log = NULL;
     if (mode > ORDERSET_INSPECT && mode != ORDERSET_LIVE)
         return ORDERSET_BAD_MODE;
-    if (!path) {
-        errno = EFAULT;
-        return ORDERSET_ERRNO;
-    }
     const int cancel = hold_cancel();
-    const uint32_t number = open_log(path, NULL, 0, mode, log);
+    const uint32_t number = path ? open_log(path, NULL, 0, mode, log) : refuse_no_path();
     release_cancel(cancel);
     return number;
 }

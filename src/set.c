@@ -118,12 +118,8 @@ uint32_t orderset_open(const char *path, uint32_t mode, struct orderset **set) {
     *set = NULL;
     if (mode > ORDERSET_INSPECT && mode != ORDERSET_LIVE)
         return ORDERSET_BAD_MODE;
-    if (!path) {
-        errno = EFAULT;
-        return ORDERSET_ERRNO;
-    }
     const int cancel = hold_cancel();
-    const uint32_t number = open_set(path, NULL, 0, mode, set);
+    const uint32_t number = path ? open_set(path, NULL, 0, mode, set) : refuse_no_path();
     release_cancel(cancel);
     return number;
 }
