@@ -126,10 +126,11 @@ def main():
                 time.sleep(chance.uniform(0.6, 1.8))
                 gateway.end(signal.SIGKILL)
                 kills += 1
-                if chance.random() < 0.5:
+                is_cut = chance.random() < 0.5
+                if is_cut or kills == 1:  # one at least, however short the run
                     gateway.cut()
                     cuts += 1
-                    if chance.random() < 0.5:
+                    if is_cut and chance.random() < 0.5:
                         shutil.rmtree(f"{folder}/session")
                         os.mkdir(f"{folder}/session")
                         lost += 1
