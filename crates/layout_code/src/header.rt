@@ -1,10 +1,12 @@
 // Sizes and the header: the refusals 1, 2, 3 and 4.
-ghost use Rattle.std.specs.Prelude.{◌≡◌, not, ◌+◌, ◌≤◌, eqb, length};
+ghost use Rattle.std.specs.Prelude.{◌≡◌, not, ◌+◌, ◌≤◌, eqb, length, IfOk};
+ghost use Rattle.refusals.specs.Number.{fault_in};
 ghost use Rattle.words.specs.Word.{word};
 ghost use Rattle.prelude.specs.Range.{any_of};
-ghost use Rattle.layout.specs.Size.{slots_of};
+ghost use Rattle.layout.specs.Size.{slots_of, slots_in};
 ghost use Rattle.layout.specs.Header.{header_word, header_fault, image_fault, index_fault, lent_fault};
 
+use refusals::Refusal;
 use words_code::read_word;
 
 // The slots of an image of len bytes, or 0 where no image has that length. The length is turned by seven bits, so that
@@ -50,55 +52,50 @@ fn header_differs(image: &[u8], l: usize, n: u64) -> bool
     rest_differs(image)
 }
 
-// 2 or 3 by the header, else 0.
-fn header_fault(image: &[u8], l: usize, n: u64) -> u32
+// The refusals 2 and 3, by the header.
+fn check_header(image: &[u8], l: usize, n: u64) -> Result<(), Refusal>
     requires { (64 ≤ length image.now) × (1 ≤ n) }
-    ensures { result ≡ header_fault l n (word image.now) }
+    ensures { fault_in result ≡ header_fault l n (word image.now) }
 {
-    if header_differs(image, l, n) {
-        if read_word(image, 0) == 0 {
-            return 2;
-        }
-        return 3;
+    if !header_differs(image, l, n) {
+        return Ok(());
     }
-    0
+    if read_word(image, 0) == 0 {
+        return Err(Refusal::NotFormatted);
+    }
+    Err(Refusal::BadHeader)
 }
 
-// 1, 2 or 3 by the image alone, else 0.
-pub fn image_fault(image: &[u8], l: usize) -> u32
-    ensures result { result ≡ image_fault l image.now }
+// The number of slots, or the refusal 1, 2 or 3 by the image alone.
+pub fn check_image(image: &[u8], l: usize) -> Result<usize, Refusal>
+    ensures fault { fault_in result ≡ image_fault l image.now }
+    ensures slots { IfOk result (λ n. n ≡ slots_in image.now) }
 {
     let n = slot_count(image.len());
     if n == 0 {
-        return 1;
+        return Err(Refusal::BadImageLength);
     }
-    header_fault(image, l, n as u64)
+    check_header(image, l, n as u64)?;
+    Ok(n)
 }
 
-// 4 by the sizes of the index, else 0.
-pub fn index_fault(n: usize, heads: usize, next: usize) -> u32
+// The refusal 4, by the sizes of the index.
+pub fn check_index(n: usize, heads: usize, next: usize) -> Result<(), Refusal>
     requires { n ≤ 65535 }
-    ensures result { result ≡ index_fault n heads next }
+    ensures result { fault_in result ≡ index_fault n heads next }
 {
-    if heads < 1 {
-        return 4;
+    if heads < 1 || 65536 < heads || next != n + 1 {
+        return Err(Refusal::BadIndexLength);
     }
-    if 65536 < heads {
-        return 4;
-    }
-    if next != n + 1 {
-        return 4;
-    }
-    0
+    Ok(())
 }
 
-// 1, 2, 3 or 4 by what is lent, else 0.
-pub fn lent_fault(image: &[u8], l: usize, heads: usize, next: usize) -> u32
-    ensures result { result ≡ lent_fault l image.now heads next }
+// The number of slots, or the refusal 1, 2, 3 or 4 by what is lent.
+pub fn check_lent(image: &[u8], l: usize, heads: usize, next: usize) -> Result<usize, Refusal>
+    ensures fault { fault_in result ≡ lent_fault l image.now heads next }
+    ensures slots { IfOk result (λ n. n ≡ slots_in image.now) }
 {
-    let fault = image_fault(image, l);
-    if fault != 0 {
-        return fault;
-    }
-    index_fault(slot_count(image.len()), heads, next)
+    let n = check_image(image, l)?;
+    check_index(n, heads, next)?;
+    Ok(n)
 }

@@ -1,6 +1,7 @@
 // The fields of the record in a slot, and its fault: 6, 22, 23 or 24. `l` is the layout.
 ghost use Rattle.std.specs.Prelude.{◌≡◌, ◌+◌, ◌*◌, ◌≤◌, eqb, length};
 ghost use Rattle.words.specs.Word.{word};
+ghost use Rattle.refusals.specs.Number.{fault_in};
 ghost use Rattle.layout.specs.Line.{line_a, line_b};
 ghost use Rattle.layout.specs.Record.{key_of, key_with, kind_of, length_of, size_field, limit};
 ghost use Rattle.layout.specs.Layouts.{layout_number};
@@ -9,6 +10,7 @@ ghost use Rattle.layout.specs.inner.Inside.{SlotInside};
 ghost use Rattle.layout.specs.inner.Key.{high_word};
 
 use layout_code::value::value_word;
+use refusals::Refusal;
 use words_code::read_word;
 
 // The low word of the key in slot s.
@@ -143,22 +145,22 @@ fn kind_limit(l: usize, kind: u64) -> usize
     0
 }
 
-// The fault of the kind word by itself: 6, 22 or 23, else 0.
-fn word_fault(l: usize, w: u64) -> u32
+// The fault of the kind word by itself: 6, 22 or 23.
+fn check_kind_word(l: usize, w: u64) -> Result<(), Refusal>
     requires { l ≤ 2 }
-    ensures { result ≡ word_fault l w }
+    ensures { fault_in result ≡ word_fault l w }
 {
     if bits_fault(w) {
-        return 6;
+        return Err(Refusal::BadKindBits);
     }
     let kind = kind_of(w);
     if kind_fault(kind) {
-        return 22;
+        return Err(Refusal::BadKind);
     }
     if kind_limit(l, kind) < length_of(w) {
-        return 23;
+        return Err(Refusal::BadValueLength);
     }
-    0
+    Ok(())
 }
 
 // Is a byte of the value from position size on not zero? Word by word, the first one from position size % 8 on.
@@ -180,18 +182,15 @@ fn tail_fault(image: &[u8], l: usize, s: usize, size: usize) -> bool
     false
 }
 
-// The fault of the record in slot s: 6, 22, 23 or 24, else 0. Asked of valid slots.
-pub fn record_fault(image: &[u8], l: usize, s: usize) -> u32
+// The fault of the record in slot s: 6, 22, 23 or 24. Asked of valid slots.
+pub fn check_record(image: &[u8], l: usize, s: usize) -> Result<(), Refusal>
     requires { SlotInside image.now l s }
-    ensures result { result ≡ fault_of l (line_a (word image.now) s) (line_b (word image.now) s) }
+    ensures result { fault_in result ≡ fault_of l (line_a (word image.now) s) (line_b (word image.now) s) }
 {
     let w = slot_kind_word(image, l, s);
-    let fault = word_fault(l, w);
-    if fault != 0 {
-        return fault;
-    }
+    check_kind_word(l, w)?;
     if tail_fault(image, l, s, length_of(w)) {
-        return 24;
+        return Err(Refusal::BadTail);
     }
-    0
+    Ok(())
 }

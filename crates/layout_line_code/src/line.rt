@@ -1,6 +1,9 @@
 // Rules on a line's mark and stamp, as functions of numbers.
 ghost use Rattle.std.specs.Prelude.{◌≡◌, ◌<◌, ◌^◌};
+ghost use Rattle.refusals.specs.Number.{fault_in};
 ghost use Rattle.layout.specs.Line.{version_of, whole, first_word, last_word_of, whole_version, version_fault};
+
+use refusals::Refusal;
 
 // Is a line with this mark and stamp whole?
 pub fn is_whole(mark: u64, stamp: u64) -> bool
@@ -41,12 +44,12 @@ pub fn line_top(mark: u64, stamp: u64) -> u64
     0
 }
 
-// 9 for a next version that cannot be written, else 0.
-pub fn version_fault(version: u64) -> u32
-    ensures result { result ≡ version_fault version }
+// The refusal 9, of a next version that cannot be written.
+pub fn check_version(version: u64) -> Result<(), Refusal>
+    ensures result { fault_in result ≡ version_fault version }
 {
     if 9223372036854775808 <= version {
-        return 9;
+        return Err(Refusal::Exhausted);
     }
-    0
+    Ok(())
 }

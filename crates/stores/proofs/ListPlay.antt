@@ -5,14 +5,14 @@ use mathlib.Core.List.{List, [], ◌∷◌}
 use Prim.Native.Nat.{ℕ, zero, suc, ◌+◌, ◌*◌, ◌≤◌, ◌<◌, ◌^◌}
 use native.Mathlib.Nat.{add-zero, zero-add, add-suc}
 use native.Mathlib.Omega.{arith}
-use borrow.Author.Tests.{ltb-false}
+use borrow.Author.Tests.{ltb-false, le-ltb}
 use lib.Dec.{eqb, ltb}
 use lib.ListN.{length, get_or, take}
 use lib.Seq.{take-length}
 use Rattle.prelude.specs.Refusal.{refuse_if}
 use Rattle.prelude.specs.Range.{any_of}
-use Rattle.prelude.proofs.Refusals.{refuse_if-false, refuse_if_zero, taken_leaves, alike}
-use Rattle.prelude.proofs.Any.{any_none, any_last}
+use Rattle.prelude.proofs.Refusals.{refuse_if-true, refuse_if-false, refuse_if_zero, taken_leaves, alike}
+use Rattle.prelude.proofs.Any.{any_none_at, any_clear_at}
 use Rattle.words.specs.Word.{set_word}
 use Rattle.stores.specs.Store.{Store, zipped, played}
 use Rattle.stores.specs.Play.{word_numbers, values, list_fault, play_end, play_list_result}
@@ -31,51 +31,37 @@ number_at (s ∷ list) (suc i) = number_at list i
 
 -- ---- the refusal
 
--- by the first i stores
-abbrev pub fault_to : (len : ℕ) → List Store → ℕ → ℕ
-fault_to len list i = refuse_if (any_of (λ k. ltb len (8 * get_or (word_numbers list) k 0 + 8)) 0 i) 15 0
+module _ (len : ℕ) (list : List Store) where
+  abbrev outside : ℕ → Bool
+  outside k = ltb len (8 * get_or (word_numbers list) k 0 + 8)
 
-pub fault_none : (len : ℕ) (list : List Store) → 0 ≡ fault_to len list 0
-unfolding any_of refuse_if
-fault_none len list = refl
+  by_word : refuse_if (any_of outside 0 (length list)) 15 0 ≡ list_fault len (word_numbers list) (length (values list))
+  unfolding list_fault
+  by_word =
+      ap (λ (n : ℕ). refuse_if (any_of outside 0 n) 15 0) (sym (numbers-length list))
+      ∙ sym (refuse_if-false (not (eqb (length (word_numbers list)) (length (values list)))) 15 _
+      (alike _ _ _ _ refl refl (numbers-length list ∙ sym (values_length list))))
 
-small : (b : Bool) → refuse_if b 15 0 < 2 ^ 32
-unfolding refuse_if
-small true = omega arith
-small false = omega arith
+  module _ (f : ℕ) (e : f ≡ list_fault len (word_numbers list) (length (values list))) where
+    pub all_inside : f ≡ 0 → AllInside len list
+    all_inside z i h =
+        subst (λ (w : ℕ). 8 * w + 8 ≤ len) (number_at list i)
+        (ltb-false len (8 * get_or (word_numbers list) i 0 + 8)
+        (any_none_at outside (length list) (refuse_if_zero _ 15 0 (by_word ∙ sym e ∙ z) (omega arith)).0 i h))
 
-pub fault_fits : (len : ℕ) (list : List Store) (i : ℕ) → fault_to len list i < 2 ^ 32
-fault_fits len list i = small (any_of (λ k. ltb len (8 * get_or (word_numbers list) k 0 + 8)) 0 i)
+  pub fault_inside : AllInside len list → 0 ≡ list_fault len (word_numbers list) (length (values list))
+  fault_inside h =
+      sym (refuse_if-false _ 15 0
+      (any_clear_at outside (length list)
+      (λ i l. le-ltb len (8 * get_or (word_numbers list) i 0 + 8) (subst (λ (w : ℕ). 8 * w + 8 ≤ len) (sym (number_at list i)) (h i l)))))
+      ∙ by_word
 
-refuse_if_either : (a b : Bool) → refuse_if a 15 (refuse_if b 15 0) ≡ refuse_if (cond b true a) 15 0
-unfolding refuse_if
-refuse_if_either true true = refl
-refuse_if_either true false = refl
-refuse_if_either false true = refl
-refuse_if_either false false = refl
-
-pub fault_next : (len : ℕ) (list : List Store) (i : ℕ) → refuse_if (ltb len (8 * (get_or list i none).word + 8)) 15 (fault_to len list i)
-    ≡ fault_to len list (i + 1)
-fault_next len list i =
-    ap (λ (w : ℕ). refuse_if (ltb len (8 * w + 8)) 15 (fault_to len list i))
-    (sym (number_at list i) ∙ ap (λ (k : ℕ). get_or (word_numbers list) k 0) (sym (zero-add i)))
-    ∙ refuse_if_either _ _
-    ∙ ap (λ (b : Bool). refuse_if b 15 0) (sym (any_last (λ k. ltb len (8 * get_or (word_numbers list) k 0 + 8)) 0 i))
-    ∙ ap (fault_to len list) (sym (add-suc i 0 ∙ ap suc (add-zero i)))
-
-pub fault_all : (len : ℕ) (list : List Store) → fault_to len list (length list) ≡ list_fault len (word_numbers list) (length (values list))
-unfolding list_fault
-fault_all len list =
-    ap (fault_to len list) (sym (numbers-length list))
-    ∙ sym (refuse_if-false (not (eqb (length (word_numbers list)) (length (values list)))) 15 _
-    (alike _ _ _ _ refl refl (numbers-length list ∙ sym (values_length list))))
-
-pub all_inside : (len : ℕ) (list : List Store) (f : ℕ) → f ≡ list_fault len (word_numbers list) (length (values list)) → f ≡ 0 → AllInside len list
-all_inside len list f e z i h =
-    subst (λ (w : ℕ). 8 * w + 8 ≤ len) (ap (λ (k : ℕ). get_or (word_numbers list) k 0) (zero-add i) ∙ number_at list i)
-    (ltb-false len (8 * get_or (word_numbers list) (0 + i) 0 + 8)
-    (any_none (λ k. ltb len (8 * get_or (word_numbers list) k 0 + 8)) 0 (length list) (refuse_if_zero _ 15 0 (fault_all len list ∙ sym e ∙ z) (omega arith)).0 i
-    h))
+  pub fault_outside : (AllInside len list → ⊥) → 15 ≡ list_fault len (word_numbers list) (length (values list))
+  fault_outside ne = by_any (any_of outside 0 (length list)) refl
+    where
+      by_any : (b : Bool) → any_of outside 0 (length list) ≡ b → 15 ≡ list_fault len (word_numbers list) (length (values list))
+      by_any true q = sym (refuse_if-true _ 15 0 q) ∙ by_word
+      by_any false q = absurd (ne (all_inside 0 (sym (refuse_if-false _ 15 0 q) ∙ by_word) refl))
 
 -- ---- the making
 

@@ -1,9 +1,11 @@
 // What play refuses.
 ghost use Rattle.std.specs.Prelude.{◌≡◌, not, ◌+◌, ◌*◌, ◌≤◌, ◌<◌, ◌^◌, eqb, ltb, length, get_or};
 ghost use Rattle.prelude.specs.Range.{any_of};
+ghost use Rattle.refusals.specs.Number.{fault_in};
 ghost use Rattle.stores.specs.Play.{half_fault, halves_fault, play_fault, list_fault};
 
 use layout_code::header::slot_count;
+use refusals::Refusal;
 
 // A word number as an index.
 fn as_index(w: u32) -> usize
@@ -42,36 +44,27 @@ fn half_fault(len: usize, at: &[u32; 16], k: usize) -> bool
     out_of_order(at, k, first)
 }
 
-// 15 by the two halves, else 0.
-fn halves_fault(len: usize, at: &[u32; 16]) -> u32
-    ensures { result ≡ halves_fault len at.now }
+// The refusal 15, by the two halves.
+fn check_halves(len: usize, at: &[u32; 16]) -> Result<(), Refusal>
+    ensures { fault_in result ≡ halves_fault len at.now }
 {
-    if half_fault(len, at, 0) {
-        return 15;
+    if half_fault(len, at, 0) || half_fault(len, at, 8) || at[0] == at[8] {
+        return Err(Refusal::BadStores);
     }
-    if half_fault(len, at, 8) {
-        return 15;
-    }
-    if at[0] == at[8] {
-        return 15;
-    }
-    0
+    Ok(())
 }
 
-// 1, 14 or 15 by what play is given, else 0.
-pub fn play_fault(len: usize, at: &[u32; 16], a: usize, b: usize) -> u32
-    ensures result { result ≡ play_fault len at.now a b }
+// The refusals 1, 14 and 15, by what play is given.
+pub fn check_play(len: usize, at: &[u32; 16], a: usize, b: usize) -> Result<(), Refusal>
+    ensures result { fault_in result ≡ play_fault len at.now a b }
 {
     if slot_count(len) == 0 {
-        return 1;
+        return Err(Refusal::BadImageLength);
     }
-    if 8 < a {
-        return 14;
+    if 8 < a || 8 < b {
+        return Err(Refusal::CountTooHigh);
     }
-    if 8 < b {
-        return 14;
-    }
-    halves_fault(len, at)
+    check_halves(len, at)
 }
 
 // Is one of the words outside len bytes?
@@ -89,15 +82,12 @@ fn any_outside(len: usize, at: &[u32]) -> bool
     false
 }
 
-// 15 by a list of stores, else 0.
-pub fn list_fault(len: usize, at: &[u32], values: usize) -> u32
-    ensures result { result ≡ list_fault len at.now values }
+// The refusal 15, by a list of stores.
+pub fn check_list(len: usize, at: &[u32], values: usize) -> Result<(), Refusal>
+    ensures result { fault_in result ≡ list_fault len at.now values }
 {
-    if at.len() != values {
-        return 15;
+    if at.len() != values || any_outside(len, at) {
+        return Err(Refusal::BadStores);
     }
-    if any_outside(len, at) {
-        return 15;
-    }
-    0
+    Ok(())
 }

@@ -1,22 +1,18 @@
 -- Answers of `stores_code::play::play_list`.
-use mathlib.Core.Path.{sym, ◌∙◌}
-use borrow.Author.Rules.{rules}
+use Rattle.std.proofs.Common.{refl, sym}
+use Rattle.refusals.proofs.Numbers.{not_zero, handed_on}
 use Rattle.stores.proofs.Plays.{list_refused, list_done}
 use Rattle.stores.proofs.Halves.{list_makeable}
 use Rattle.stores_code.proofs.play.play_list.Goals as goal
 
--- `stores_code::play::play_list` meets its contract. Assumes nothing.
-pub returns-then-fault-ne0 : goal.returns-then-fault-ne0
-returns-then-fault-ne0 c =
-    record { result = (list_refused _ _ _ _ c.list_fault-fault.ensures.result c.if-fault-ne0.true) }
+pub returns-in_err-check_list : goal.returns-in_err-check_list
+returns-in_err-check_list c =
+    record {
+      result = rw (handed_on _ _ c.from_residual.ensures.1) (list_refused _ _ _ _ c.in_err-check_list.ensures.result (not_zero _));
+    }
 
 pub make_stores-requires : goal.make_stores-requires
-make_stores-requires c =
-    list_makeable _ _ _ (sym c.list_fault-fault.ensures.result ∙ c.if-fault-ne0.false)
+make_stores-requires c = list_makeable _ _ _ (sym c.in_ok-check_list.ensures.result)
 
 pub returns : goal.returns
-returns c =
-    record {
-      result = (list_done _ _ _ _ c.list_fault-fault.ensures.result c.if-fault-ne0.false _
-          c.make_stores.ensures.result);
-    }
+returns c = record { result = list_done _ _ _ _ c.in_ok-check_list.ensures.result refl _ c.make_stores.ensures.result }

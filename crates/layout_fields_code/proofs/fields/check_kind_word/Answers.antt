@@ -1,13 +1,13 @@
--- Answers of `layout_fields_code::fields::word_fault`.
+-- Answers of `layout_fields_code::fields::check_kind_word`.
 use borrow.Author.Rules.{rules}
 use Rattle.layout.proofs.RecordFields.{bad_bits, bad_kind, bad_length, no_word_fault}
-use Rattle.layout_fields_code.proofs.fields.word_fault.Goals as goal
+use Rattle.layout_fields_code.proofs.fields.check_kind_word.Goals as goal
 
 pub returns-then-bits_fault : goal.returns-then-bits_fault
 returns-then-bits_fault c =
     search bad_bits
 
--- `layout_fields_code::fields::word_fault` meets its contract. Assumes nothing.
+-- `layout_fields_code::fields::check_kind_word` meets its contract. Assumes nothing.
 pub returns-then-kind_fault : goal.returns-then-kind_fault
 returns-then-kind_fault c =
     bad_kind _ _ _ _ c.bits_fault.ensures c.if-bits_fault.false c.kind_of-kind.ensures _
