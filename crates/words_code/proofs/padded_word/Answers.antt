@@ -1,12 +1,11 @@
 -- Answers of `words_code::padded_word`.
-use mathlib.Core.Path.{sym}
 use native.Mathlib.Omega.{arith}
+use mathlib.Core.Path.{sym}
 use borrow.Author.Rules.{rules}
 use Rattle.words.specs.Word.{word}
 use Rattle.words.proofs.Laws.{word_past}
 use Rattle.words_code.proofs.padded_word.Goals as goal
 
--- `words_code::padded_word` meets its contract. Assumes nothing.
 pub returns-then-value-at : goal.returns-then-value-at
 returns-then-value-at c =
     record { result = (sym (word_past _ _ (omega arith))) }
