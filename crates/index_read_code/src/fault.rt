@@ -8,19 +8,12 @@ ghost use Rattle.index.specs.Allocation.{ends_fault};
 use index::{Found, Mode};
 
 // 11 by the key's chain, else 0.
+#[tactic(auto, unfolding(index::specs::Walk::chain_fault))]
 pub fn chain_fault(found: Found) -> u32
     ensures result { result ≡ chain_fault found }
 {
     match found {
-        Found::At {
-            slot: _,
-            prev: _,
-            compared: _,
-        } => 0,
-        Found::Missing {
-            prev: _,
-            compared: _,
-        } => 0,
+        Found::At { .. } | Found::Missing { .. } => 0,
         Found::BadChain => 11,
     }
 }

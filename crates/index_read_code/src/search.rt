@@ -28,8 +28,7 @@ pub fn find_key(
     let mut at = heads[head];
     let mut prev: u32 = 0;
     let mut compared: u32 = 0;
-    let mut left = n;
-    while 0 < left {
+    for _ in 0..n {
         if at == 0 {
             return Found::Missing { prev, compared };
         }
@@ -47,22 +46,17 @@ pub fn find_key(
         }
         prev = at;
         at = next[slot];
-        left -= 1;
     }
     Found::BadChain
 }
 
 // The slots compared, by what the key's chain has.
+#[tactic(auto, unfolding(index::specs::Walk::compared_in))]
 fn compared_in(found: Found) -> u32
     ensures { result ≡ compared_in found }
 {
     match found {
-        Found::At {
-            slot: _,
-            prev: _,
-            compared,
-        } => compared,
-        Found::Missing { prev: _, compared } => compared,
+        Found::At { compared, .. } | Found::Missing { compared, .. } => compared,
         Found::BadChain => 0,
     }
 }

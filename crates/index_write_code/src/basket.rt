@@ -14,10 +14,7 @@ use index::{Action, Mode, State};
 fn last_without(last: u32, slot: u32, prev: u32) -> u32
     ensures { result ≡ cond (eqb last slot) prev last }
 {
-    if last == slot {
-        return prev;
-    }
-    last
+    if last == slot { prev } else { last }
 }
 
 // A slot leaves the reuse chain; prev is the slot before it that stays, 0 for none.
@@ -26,27 +23,17 @@ fn take_slot(next: &mut [u32], state: State, slot: u32, prev: u32) -> State
     ensures { (result ≡ left_state next.old state slot prev) ×
         (next.new ≡ link_next next.old prev (get_or next.old slot 0)) }
 {
-    let at = slot as usize;
-    let follow = next[at];
+    let follow = next[slot as usize];
     let last = last_without(state.last, slot, prev);
     if prev == 0 {
         return State {
             first: follow,
             last,
-            live: state.live,
-            version: state.version,
-            newest: state.newest,
+            ..state
         };
     }
-    let p = prev as usize;
-    next[p] = follow;
-    State {
-        first: state.first,
-        last,
-        live: state.live,
-        version: state.version,
-        newest: state.newest,
-    }
+    next[prev as usize] = follow;
+    State { last, ..state }
 }
 
 // So many slots leave the reuse chain, in order.
@@ -61,10 +48,8 @@ pub fn take_all(
     ensures result { (heads : List ℕ) → index_of heads next.new result ≡ all_taken_of (index_of heads next.old state) (takens_from slots prevs 0 count) }
 {
     let mut rest = state;
-    let mut j = 0;
-    while j < count {
+    for j in 0..count {
         rest = take_slot(next, rest, slots[j], prevs[j]);
-        j += 1;
     }
     rest
 }
@@ -76,21 +61,12 @@ fn slot_before(next: &[u32], n: usize, target: u32, first: u32) -> u32
 {
     let mut prev: u32 = 0;
     let mut at = first;
-    let mut left = n;
-    while 0 < left {
-        if at == target {
-            return prev;
-        }
-        if at == 0 {
-            return prev;
-        }
-        let slot = at as usize;
-        if n < slot {
+    for _ in 0..n {
+        if at == target || at == 0 || n < at as usize {
             return prev;
         }
         prev = at;
-        at = next[slot];
-        left -= 1;
+        at = next[at as usize];
     }
     prev
 }
@@ -109,8 +85,7 @@ fn insert_linked(
         ≡ link_by n (index_of heads.old next.old state) (Write Insert) h 0 slot }
 {
     let prev = slot_before(next, n, 0, heads[h]);
-    let at = slot as usize;
-    next[at] = 0;
+    next[slot as usize] = 0;
     link(heads, next, h, prev, slot);
     state
 }
@@ -130,10 +105,7 @@ fn replace_linked(
         ≡ link_by n (index_of heads.old next.old state) (Write Replace) h old slot }
 {
     let prev = slot_before(next, n, old, heads[h]);
-    let from = old as usize;
-    let follow = next[from];
-    let at = slot as usize;
-    next[at] = follow;
+    next[slot as usize] = next[old as usize];
     link(heads, next, h, prev, slot);
     append_slot(next, state, old)
 }
@@ -152,8 +124,7 @@ fn remove_linked(
     ensures { index_of heads.new next.new result ≡ link_by n (index_of heads.old next.old state) Remove h old slot }
 {
     let prev = slot_before(next, n, old, heads[h]);
-    let from = old as usize;
-    let follow = next[from];
+    let follow = next[old as usize];
     link(heads, next, h, prev, follow);
     let joined = append_slot(next, state, old);
     append_slot(next, joined, slot)
@@ -176,10 +147,8 @@ pub fn link_item(
         ≡ link_by n (index_of heads.old next.old state) action h old slot }
 {
     match action {
-        Action::Write(mode) => match mode {
-            Mode::Insert => insert_linked(heads, next, n, state, h, slot),
-            Mode::Replace => replace_linked(heads, next, n, state, h, old, slot),
-        },
+        Action::Write(Mode::Insert) => insert_linked(heads, next, n, state, h, slot),
+        Action::Write(Mode::Replace) => replace_linked(heads, next, n, state, h, old, slot),
         Action::Remove => remove_linked(heads, next, n, state, h, old, slot),
     }
 }

@@ -1,48 +1,26 @@
 // Recovery's index writes: the slots of an order, each pushed to the front of its chain.
-ghost use Rattle.std.specs.Prelude.{◌≡◌, ◌≤◌, ◌<◌, length, replicate};
+ghost use Rattle.std.specs.Prelude.{◌≡◌, ◌≤◌, ◌<◌, length};
 ghost use Rattle.index.specs.Index.{index_of};
 ghost use Rattle.index.specs.inner.Build.{push, build, chain_from, place_in, unbuilt, Ordered};
 
 use index::State;
-
-// Every number becomes zero.
-pub fn zero_numbers(list: &mut [u32])
-    ensures result { list.new ≡ replicate (length list.old) 0 }
-{
-    let mut i = 0;
-    while i < list.len() {
-        list[i] = 0;
-        i += 1;
-    }
-}
 
 // The slot goes to the front of its chain: place 0 is reuse, h + 1 the chain of head h.
 fn push_front(heads: &mut [u32], next: &mut [u32], state: State, place: u32, slot: u32) -> State
     requires { (slot < length next.old) × (place ≤ length heads.old) }
     ensures { index_of heads.new next.new result ≡ push (index_of heads.old next.old state) (chain_from place) slot }
 {
-    let at = slot as usize;
     if place == 0 {
-        next[at] = state.first;
-        if state.last == 0 {
-            return State {
-                first: slot,
-                last: slot,
-                live: state.live,
-                version: state.version,
-                newest: state.newest,
-            };
-        }
+        next[slot as usize] = state.first;
+        let last = if state.last == 0 { slot } else { state.last };
         return State {
             first: slot,
-            last: state.last,
-            live: state.live,
-            version: state.version,
-            newest: state.newest,
+            last,
+            ..state
         };
     }
     let h = (place - 1) as usize;
-    next[at] = heads[h];
+    next[slot as usize] = heads[h];
     heads[h] = slot;
     state
 }
@@ -61,12 +39,9 @@ pub fn chain_up(heads: &mut [u32], next: &mut [u32], order: &[u32], places: &[u3
         version: 0,
         newest: 0,
     };
-    let mut left = order.len();
-    while 0 < left {
-        left -= 1;
-        let slot = order[left];
-        let place = places[slot as usize];
-        state = push_front(heads, next, state, place, slot);
+    for i in (0..order.len()).rev() {
+        let slot = order[i];
+        state = push_front(heads, next, state, places[slot as usize], slot);
     }
     state
 }

@@ -7,67 +7,51 @@ ghost use Rattle.index.specs.inner.Parts.{live_at, link_heads, link_next, take_s
 use index::{Place, State};
 
 // The link to what follows prev in the chain of head h becomes slot; prev 0 is the head itself.
+#[tactic(auto, unfolding(index::specs::inner::Parts::link_heads, index::specs::inner::Parts::link_next))]
 pub fn link(heads: &mut [u32], next: &mut [u32], h: usize, prev: u32, slot: u32)
     requires { (h < length heads.old) × (prev < length next.old) }
     ensures result { (heads.new ≡ link_heads heads.old h prev slot) × (next.new ≡ link_next next.old prev slot) }
 {
     if prev == 0 {
         heads[h] = slot;
-        return;
+    } else {
+        next[prev as usize] = slot;
     }
-    let p = prev as usize;
-    next[p] = slot;
 }
 
 // The first slot leaves the reuse chain.
+#[tactic(auto, unfolding(index::specs::inner::Parts::take_state))]
 fn take(next: &[u32], state: State) -> State
     requires { state.first < length next.now }
     ensures { result ≡ take_state next.now state }
 {
-    let at = state.first as usize;
-    let first = next[at];
-    if first == 0 {
-        return State {
-            first,
-            last: 0,
-            live: state.live,
-            version: state.version,
-            newest: state.newest,
-        };
-    }
+    let first = next[state.first as usize];
+    let last = if first == 0 { 0 } else { state.last };
     State {
         first,
-        last: state.last,
-        live: state.live,
-        version: state.version,
-        newest: state.newest,
+        last,
+        ..state
     }
 }
 
 // The slot joins the end of the reuse chain.
+#[tactic(auto, unfolding(index::specs::inner::Parts::append_state, index::specs::inner::Parts::append_next, index::specs::inner::Parts::link_next))]
 pub fn append_slot(next: &mut [u32], state: State, slot: u32) -> State
     requires { (slot < length next.old) × (state.last < length next.old) }
     ensures result { (result ≡ append_state state slot) × (next.new ≡ append_next next.old state slot) }
 {
-    let at = slot as usize;
-    next[at] = 0;
+    next[slot as usize] = 0;
     if state.last == 0 {
         return State {
             first: slot,
             last: slot,
-            live: state.live,
-            version: state.version,
-            newest: state.newest,
+            ..state
         };
     }
-    let last = state.last as usize;
-    next[last] = slot;
+    next[state.last as usize] = slot;
     State {
-        first: state.first,
         last: slot,
-        live: state.live,
-        version: state.version,
-        newest: state.newest,
+        ..state
     }
 }
 
@@ -79,15 +63,13 @@ fn insert_new(heads: &mut [u32], next: &mut [u32], state: State, h: usize, prev:
 {
     let slot = state.first;
     let rest = take(next, state);
-    let at = slot as usize;
-    next[at] = 0;
+    next[slot as usize] = 0;
     link(heads, next, h, prev, slot);
     State {
-        first: rest.first,
-        last: rest.last,
         live: rest.live + 1,
         version: rest.version + 1,
         newest: slot,
+        ..rest
     }
 }
 
@@ -107,18 +89,13 @@ fn replace_held(
 {
     let slot = state.first;
     let rest = take(next, state);
-    let at = slot as usize;
-    let from = old as usize;
-    let follow = next[from];
-    next[at] = follow;
+    next[slot as usize] = next[old as usize];
     link(heads, next, h, prev, slot);
     let back = append_slot(next, rest, old);
     State {
-        first: back.first,
-        last: back.last,
-        live: back.live,
         version: back.version + 1,
         newest: slot,
+        ..back
     }
 }
 
@@ -158,16 +135,14 @@ pub fn remove_held(
 {
     let slot = state.first;
     let rest = take(next, state);
-    let from = old as usize;
-    let follow = next[from];
+    let follow = next[old as usize];
     link(heads, next, h, prev, follow);
     let joined = append_slot(next, rest, old);
     let all = append_slot(next, joined, slot);
     State {
-        first: all.first,
-        last: all.last,
         live: all.live - 1,
         version: all.version + 1,
         newest: slot,
+        ..all
     }
 }

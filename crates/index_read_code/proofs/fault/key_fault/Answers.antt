@@ -1,5 +1,4 @@
 -- Answers of `index_read_code::fault::key_fault`.
-use borrow.Author.Rules.{rules}
 use Rattle.prelude.specs.Refusal.{refuse_if}
 use Rattle.prelude.proofs.Tests.{tests}
 use Rattle.index.specs.Change.{key_fault}

@@ -1,6 +1,5 @@
 -- Answers of `index_read_code::head::head_of`.
 use native.Mathlib.Nat.{mod-lt}
-use borrow.Author.Rules.{rules}
 use Rattle.index.proofs.Heads.{head_by_low, head_by_mask}
 use Rattle.index_read_code.proofs.head.head_of.Goals as goal
 

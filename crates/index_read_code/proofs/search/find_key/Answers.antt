@@ -1,8 +1,9 @@
 -- Answers of `index_read_code::search::find_key`.
+use mathlib.Core.Path.{◌≡◌}
+use Prim.Native.Nat.{◌+◌, ◌-◌}
 use native.Mathlib.Omega.{arith}
 use borrow.Author.Rules.{rules}
-use Rattle.layout.specs.Record.{key_with}
-use Rattle.index.proofs.Walks.{Going, begins, at-end, past, here, on, out}
+use Rattle.index.proofs.Walks.{begins, at-end, past, here, on, out}
 use Rattle.index_read_code.proofs.search.find_key.Goals as goal
 
 pub head_of-head-requires : goal.head_of-head-requires
@@ -17,17 +18,18 @@ pub bounds-heads-head : goal.bounds-heads-head
 bounds-heads-head c =
     c.head_of-head.ensures.result.0
 
-pub loop-left-init : goal.loop-left-init
-loop-left-init c =
-    begins _ _ _ _ _ _ _ c.requires.1.slot_count (c.head_of-head.ensures.result.1 c.args.high) (c.shared_slice_known-4-1.given _).fits
+pub loop-init : goal.loop-init
+loop-init c =
+    let all : c.args.n - 0 ≡ c.args.n = omega arith in
+    rw all (begins _ _ _ _ _ _ _ c.requires.1.slot_count (c.head_of-head.ensures.result.1 c.args.high) (c.shared_slice_known-4-1.given _).fits)
 
 pub returns-then-at-eq0 : goal.returns-then-at-eq0
 returns-then-at-eq0 c =
-    record { result = (at-end _ _ _ _ _ _ _ _ _ _ c.loop-left.invariant (search rules) c.if-at-eq0.true) }
+    record { result = (at-end _ _ _ _ _ _ _ _ _ _ c.loop.invariant (search rules) c.if-at-eq0.true) }
 
 pub returns-then-n-slot : goal.returns-then-n-slot
 returns-then-n-slot c =
-    record { result = (past _ _ _ _ _ _ _ _ _ _ c.loop-left.invariant (search rules) c.if-at-eq0.false c.if-n-slot.true) }
+    record { result = (past _ _ _ _ _ _ _ _ _ _ c.loop.invariant (search rules) c.if-at-eq0.false c.if-n-slot.true) }
 
 pub has_key-requires : goal.has_key-requires
 has_key-requires c =
@@ -36,16 +38,17 @@ has_key-requires c =
 pub returns-then-has_key : goal.returns-then-has_key
 returns-then-has_key c =
     record {
-      result = (here _ _ _ _ _ _ _ _ _ _ c.loop-left.invariant (search rules) c.if-at-eq0.false c.if-n-slot.false _
+      result = (here _ _ _ _ _ _ _ _ _ _ c.loop.invariant (search rules) c.if-at-eq0.false c.if-n-slot.false _
           c.has_key.ensures.result c.if-has_key.true);
     }
 
-pub loop-left-preserved : goal.loop-left-preserved
-loop-left-preserved c =
-    on _ _ _ _ _ _ _ _ _ _ c.loop-left.invariant (search rules) c.if-at-eq0.false c.if-n-slot.false _
+pub loop-preserved : goal.loop-preserved
+loop-preserved c =
+    let less : c.args.n - (c.loop.counter + 1) ≡ c.args.n - c.loop.counter - 1 = omega arith in
+    rw less (on _ _ _ _ _ _ _ _ _ _ c.loop.invariant (search rules) c.if-at-eq0.false c.if-n-slot.false _
     c.has_key.ensures.result c.if-has_key.false
-    (c.shared_slice_known-in-loop-left-1.given _).fits
+    (c.shared_slice_known-in-loop-1.given _).fits)
 
 pub returns : goal.returns
 returns c =
-    record { result = (out _ _ _ _ _ _ _ _ _ _ c.loop-left.invariant c.loop-left-test.false) }
+    record { result = (out _ _ _ _ _ _ _ _ _ _ c.loop.invariant (omega (arith, c.loop-test.false))) }

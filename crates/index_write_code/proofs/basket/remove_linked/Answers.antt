@@ -1,20 +1,12 @@
 -- Answers of `index_write_code::basket::remove_linked`.
-use mathlib.Core.Path.{◌∙◌}
 use native.Mathlib.Omega.{arith}
 use Rattle.index.proofs.Writes.{append_last}
 use Rattle.index.proofs.BasketWrites.{before_within, remove_linked}
-use borrow.Author.Rules.{rules}
 use Rattle.index_write_code.proofs.basket.remove_linked.Goals as goal
 
 pub link-requires : goal.link-requires
 link-requires c =
     (c.requires.head_in, before_within _ _ _ _ _ c.slot_before-prev.ensures c.requires.size)
-
-pub append_slot-joined-requires : goal.append_slot-joined-requires
-append_slot-joined-requires c = (
-  omega (arith, c.link.auto.next, c.requires.size, c.requires.old-in),
-  omega (arith, c.link.auto.next, c.requires.size, c.requires.last_in),
-)
 
 pub append_slot-requires : goal.append_slot-requires
 append_slot-requires c = (

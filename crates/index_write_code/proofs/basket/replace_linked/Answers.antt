@@ -1,24 +1,11 @@
 -- Answers of `index_write_code::basket::replace_linked`.
-use mathlib.Core.Path.{◌∙◌}
-use native.Mathlib.Omega.{arith}
 use lib.ListN.{length-set}
 use Rattle.index.proofs.BasketWrites.{before_within, replace_linked}
-use borrow.Author.Rules.{rules}
 use Rattle.index_write_code.proofs.basket.replace_linked.Goals as goal
 
 pub link-requires : goal.link-requires
 link-requires c =
     (c.requires.head_in, rw length-set (before_within _ _ _ _ _ c.slot_before-prev.ensures c.requires.size))
-
-pub append_slot-requires : goal.append_slot-requires
-append_slot-requires c = (
-  rw (c.link.auto.next, length-set) (omega (arith, c.requires.size, c.requires.old-in)),
-  rw (c.link.auto.next, length-set) (omega (arith, c.requires.size, c.requires.last_in)),
-)
-
-pub shape_of-next : goal.shape_of-next
-shape_of-next c =
-    c.append_slot.auto.next ∙ c.link.auto.next ∙ simp length-set
 
 pub returns : goal.returns
 returns c =

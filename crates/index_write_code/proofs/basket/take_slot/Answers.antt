@@ -1,6 +1,5 @@
 -- Answers of `index_write_code::basket::take_slot`.
 use mathlib.Core.Path.{refl}
-use borrow.Author.Rules.{rules}
 use borrow.Author.Tests.{eq-eqb, ne_eqb}
 use Rattle.index.specs.inner.Parts.{link_next}
 use Rattle.index.specs.inner.Basket.{left_state}

@@ -1,5 +1,4 @@
 -- Answers of `index_write_code::build::push_front`.
-use borrow.Author.Rules.{rules}
 use Rattle.index.proofs.Pushes.{front_only, front_reuse, front_head}
 use Rattle.index_write_code.proofs.build.push_front.Goals as goal
 
@@ -8,8 +7,8 @@ pub returns-then-state-eq0 : goal.returns-then-state-eq0
 returns-then-state-eq0 c =
     front_only _ _ _ _ _ c.if-place-eq0.true c.if-state-eq0.true
 
-pub returns-then-place-eq0 : goal.returns-then-place-eq0
-returns-then-place-eq0 c =
+pub returns-else-state-eq0 : goal.returns-else-state-eq0
+returns-else-state-eq0 c =
     front_reuse _ _ _ _ _ c.if-place-eq0.true c.if-state-eq0.false
 
 pub returns : goal.returns

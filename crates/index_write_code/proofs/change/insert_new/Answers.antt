@@ -1,8 +1,5 @@
 -- Answers of `index_write_code::change::insert_new`.
-use mathlib.Core.Path.{◌∙◌}
 use native.Mathlib.Omega.{arith}
-use lib.ListN.{length-set}
-use borrow.Author.Rules.{rules}
 use Rattle.index.proofs.Writes.{taken_live, taken_version, insert-new}
 use Rattle.index_write_code.proofs.change.insert_new.Goals as goal
 
@@ -13,10 +10,6 @@ overflow_add-result c =
 pub overflow_add-result-2 : goal.overflow_add-result-2
 overflow_add-result-2 c =
     omega (arith, taken_version _ _ _ c.take-rest.ensures, c.requires.0.version_fits)
-
-pub shape_of-next : goal.shape_of-next
-shape_of-next c =
-    c.link.auto.next ∙ simp length-set
 
 pub returns : goal.returns
 returns c =

@@ -1,6 +1,5 @@
 -- Answers of `index_write_code::change::remove_held`.
 use native.Mathlib.Omega.{arith}
-use borrow.Author.Rules.{rules}
 use Rattle.index.proofs.Writes.{taken_last, taken_live, taken_version, append_last, append_live, append_version, remove-held}
 use Rattle.index_write_code.proofs.change.remove_held.Goals as goal
 

@@ -1,8 +1,6 @@
 -- Answers of `index_write_code::change::replace_held`.
-use mathlib.Core.Path.{◌∙◌}
 use native.Mathlib.Omega.{arith}
 use lib.ListN.{length-set}
-use borrow.Author.Rules.{rules}
 use Rattle.index.proofs.Writes.{taken_last, taken_version, append_version, replace-held}
 use Rattle.index_write_code.proofs.change.replace_held.Goals as goal
 
@@ -20,10 +18,6 @@ overflow_add-result c =
       taken_version _ _ _ c.take-rest.ensures,
       c.requires.version_fits,
     )
-
-pub shape_of-next : goal.shape_of-next
-shape_of-next c =
-    c.append_slot-back.auto.next ∙ c.link.auto.next ∙ simp length-set
 
 pub returns : goal.returns
 returns c =
