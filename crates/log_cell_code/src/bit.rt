@@ -20,17 +20,12 @@ pub fn differing_word(area: &[u8], n: usize, message: &[u8], i: usize) -> usize
     if message.len() <= 64 * i {
         return nonzero_word(area, n);
     }
-    let mut left: usize = 8;
-    let place = loop {
-        if left == 0 {
-            break 8;
+    for place in (0..8).rev() {
+        if read_word(area, 8 * n + place) != padded_word(message, 8 * i + place) {
+            return place;
         }
-        left -= 1;
-        if read_word(area, 8 * n + left) != padded_word(message, 8 * i + left) {
-            break left;
-        }
-    };
-    place
+    }
+    8
 }
 
 // The same where the new line is zeros: the place of the highest word that is not zero.
@@ -38,17 +33,12 @@ fn nonzero_word(area: &[u8], n: usize) -> usize
     requires { 64 * n + 64 ≤ length area.now }
     ensures { result ≡ differing_place 8 (line (word area.now) n) (λ (j : ℕ). 0) }
 {
-    let mut left: usize = 8;
-    let place = loop {
-        if left < 1 {
-            break 8;
+    for place in (0..8).rev() {
+        if read_word(area, 8 * n + place) != 0 {
+            return place;
         }
-        left -= 1;
-        if read_word(area, 8 * n + left) != 0 {
-            break left;
-        }
-    };
-    place
+    }
+    8
 }
 
 // How many words of a line are stored: word 0 up to the one at this place, and none of equal lines.

@@ -13,16 +13,10 @@ use words_code::{greater, read_word};
 pub fn cell_count(len: usize) -> usize
     ensures result { result ≡ cells_of len }
 {
-    if len < 896 {
-        return 0;
+    match len {
+        896..=448000 if len % 448 == 0 => len / 448,
+        _ => 0,
     }
-    if 448000 < len {
-        return 0;
-    }
-    if len % 448 != 0 {
-        return 0;
-    }
-    len / 448
 }
 
 // Does one of the six bits of cell c not match?
@@ -31,13 +25,11 @@ fn bits_differ(area: &[u8], c: usize) -> bool
     ensures { result ≡ bits_differ (word area.now) c }
 {
     let mut rest = read_word(area, 8 * (7 * c) + 2);
-    let mut i = 0;
-    while i < 6 {
+    for i in 0..6 {
         if pair_differs(area, 7 * c + 1 + i, rest % 1024) {
             return true;
         }
-        rest = rest / 1024;
-        i += 1;
+        rest /= 1024;
     }
     false
 }
@@ -48,27 +40,17 @@ fn number_in(area: &[u8], k: usize, c: usize) -> u64
     ensures { result ≡ message_number k (word area.now) c }
 {
     let stamp = read_word(area, 8 * (7 * c) + 7);
-    if read_word(area, 8 * (7 * c)) != stamp % 2 {
-        return 0;
-    }
     let version = stamp / 2;
-    if version == 0 {
+    if read_word(area, 8 * (7 * c)) != stamp % 2
+        || version == 0
+        || version % (k as u64) != c as u64
+    {
         return 0;
     }
-    if version % (k as u64) != c as u64 {
-        return 0;
+    match read_word(area, 8 * (7 * c) + 1) {
+        1..=384 if !bits_differ(area, c) => version,
+        _ => 0,
     }
-    let size = read_word(area, 8 * (7 * c) + 1);
-    if size == 0 {
-        return 0;
-    }
-    if 384 < size {
-        return 0;
-    }
-    if bits_differ(area, c) {
-        return 0;
-    }
-    version
 }
 
 // The greater of best and the complete number of cell c. A line whose version is not above best needs no further look.
@@ -90,10 +72,8 @@ pub fn highest_number(area: &[u8], k: usize) -> u64
     ensures result { result ≡ highest k (word area.now) }
 {
     let mut best = 0;
-    let mut left = k;
-    while 0 < left {
-        left -= 1;
-        best = greater_in(area, k, left, best);
+    for c in (0..k).rev() {
+        best = greater_in(area, k, c, best);
     }
     best
 }
@@ -104,13 +84,7 @@ pub fn is_shown(area: &[u8], k: usize, number: u64) -> bool
     ensures result { result ≡ shown k (word area.now) number }
 {
     let top = highest_number(area, k);
-    if number == 0 {
-        return false;
-    }
-    if top < number {
-        return false;
-    }
-    if (k as u64) - 1 <= top - number {
+    if number == 0 || top < number || (k as u64) - 1 <= top - number {
         return false;
     }
     let c = (number % (k as u64)) as usize;

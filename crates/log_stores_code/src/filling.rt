@@ -14,13 +14,7 @@ use words_code::{padded_word, read_word};
 pub fn short_fault(count: usize, ats: usize, vals: usize) -> u32
     ensures result { result ≡ short_fault count ats vals }
 {
-    if ats < count {
-        return 13;
-    }
-    if vals < count {
-        return 13;
-    }
-    0
+    if ats < count || vals < count { 13 } else { 0 }
 }
 
 // Word i of the marked line of a message, over a line with this stamp.
@@ -28,19 +22,13 @@ fn marked_word(stamp: u64, number: u64, size: usize, pairs: u64, i: usize) -> u6
     requires { number < 2 ^ 63 }
     ensures { result ≡ marked stamp number (marked_body size pairs) i }
 {
-    if i == 0 {
-        return first_word(stamp);
+    match i {
+        0 => first_word(stamp),
+        1 => size as u64,
+        2 => pairs,
+        7 => last_word(stamp, number),
+        _ => 0,
     }
-    if i == 7 {
-        return last_word(stamp, number);
-    }
-    if i == 1 {
-        return size as u64;
-    }
-    if i == 2 {
-        return pairs;
-    }
-    0
 }
 
 // The eight stores of the marked line of cell c, at the front of the lists.
@@ -57,11 +45,9 @@ fn fill_marked(
     ensures { Filled at.old value.old at.new value.new 0
         (run (8 * (7 * c)) (marked stamp number (marked_body size pairs)) 0 8) }
 {
-    let mut j = 0;
-    while j < 8 {
+    for j in 0..8 {
         at[j] = (8 * (7 * c) + j) as u32;
         value[j] = marked_word(stamp, number, size, pairs, j);
-        j += 1;
     }
 }
 
@@ -80,12 +66,9 @@ fn fill_line(
     ensures { Filled at.old value.old at.new value.new from
         (run (8 * n) (message_line message.now i) 0 count) }
 {
-    let mut j = 0;
-    while j < count {
-        let v = padded_word(message, 8 * i + j);
+    for j in 0..count {
         at[from + j] = (8 * n + j) as u32;
-        value[from + j] = v;
-        j += 1;
+        value[from + j] = padded_word(message, 8 * i + j);
     }
 }
 
@@ -96,13 +79,11 @@ fn fill_payload(area: &[u8], message: &[u8], at: &mut [u32], value: &mut [u64], 
         (payloads_from (word area.now) c message.now 0 6) }
 {
     let mut k = 8;
-    let mut i = 0;
-    while i < 6 {
+    for i in 0..6 {
         let n = 7 * c + 1 + i;
         let count = store_count(differing_word(area, n, message, i));
         fill_line(at, value, k, n, message, i, count);
         k += count;
-        i += 1;
     }
 }
 

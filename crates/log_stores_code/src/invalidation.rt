@@ -13,10 +13,7 @@ fn is_above(area: &[u8], top: u64, c: usize) -> bool
     ensures { result ≡ is_above (word area.now) top c }
 {
     let stamp = read_word(area, 8 * (7 * c) + 7);
-    if read_word(area, 8 * (7 * c)) != stamp % 2 {
-        return false;
-    }
-    top < stamp / 2
+    read_word(area, 8 * (7 * c)) == stamp % 2 && top < stamp / 2
 }
 
 // How many stores the recovery has.
@@ -25,12 +22,10 @@ pub fn count_invalidations(area: &[u8], k: usize, top: u64) -> usize
     ensures result { result ≡ length (invalidations (word area.now) top 0 k) }
 {
     let mut count = 0;
-    let mut c = 0;
-    while c < k {
+    for c in 0..k {
         if is_above(area, top, c) {
             count += 1;
         }
-        c += 1;
     }
     count
 }
@@ -64,9 +59,7 @@ pub fn fill_invalidations(area: &[u8], at: &mut [u32], value: &mut [u64], k: usi
         (invalidations (word area.now) top 0 k) }
 {
     let mut n = 0;
-    let mut c = 0;
-    while c < k {
+    for c in 0..k {
         n = fill_invalidation(area, at, value, n, top, c);
-        c += 1;
     }
 }

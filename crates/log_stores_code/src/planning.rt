@@ -13,13 +13,10 @@ use message_log::{AppendPlan, Payload};
 fn message_fault(size: usize) -> u32
     ensures { result ≡ message_fault size }
 {
-    if size == 0 {
-        return 29;
+    match size {
+        1..=384 => 0,
+        _ => 29,
     }
-    if 384 < size {
-        return 29;
-    }
-    0
 }
 
 // The pairs and the count of stores of the payload lines of a message for cell c, from the last line down.
@@ -29,14 +26,11 @@ fn payload_plan(area: &[u8], c: usize, message: &[u8]) -> Payload
 {
     let mut pairs: u64 = 0;
     let mut count: usize = 0;
-    let mut left: usize = 6;
-    while 0 < left {
-        let i = left - 1;
+    for i in (0..6).rev() {
         let n = 7 * c + 1 + i;
         let place = differing_word(area, n, message, i);
         pairs = line_pair(area, n, message, i, place) + 1024 * pairs;
         count += store_count(place);
-        left = i;
     }
     Payload { pairs, count }
 }
@@ -58,10 +52,7 @@ fn no_plan(fault: u32) -> AppendPlan
 fn number_fault(last: u64) -> u32
     ensures { result ≡ version_fault (suc last) }
 {
-    if 9223372036854775807 <= last {
-        return 9;
-    }
-    0
+    if last >= (1 << 63) - 1 { 9 } else { 0 }
 }
 
 // The plan of an append after this number, to lists of ats and vals entries.

@@ -8,22 +8,22 @@ pub returns-then-message-i : goal.returns-then-message-i
 returns-then-message-i c =
     record { result = (zeros_past _ _ _ _ c.if-message-i.true _ c.nonzero_word.ensures) }
 
-pub loop-left-init : goal.loop-left-init
-loop-left-init c =
+pub loop-place-init : goal.loop-place-init
+loop-place-init c =
     search_start _ _ _
 
-pub loop-left-preserved : goal.loop-left-preserved
-loop-left-preserved c =
-    search_passed _ _ _ _ _ _ _ c.loop-left.invariant (omega arith) refl
+pub loop-place-preserved : goal.loop-place-preserved
+loop-place-preserved c =
+    search_passed _ _ _ _ _ _ _ c.loop-place.invariant (omega arith) refl
     c.read_word.ensures.result c.padded_word.ensures.result c.if-read_word-padded_word.false
 
-pub returns-then-left-eq0 : goal.returns-then-left-eq0
-returns-then-left-eq0 c =
-    record { result = (search_equal _ _ _ _ c.loop-left.invariant c.if-left-eq0.true) }
+pub returns : goal.returns
+returns c =
+    record { result = (search_equal _ _ _ _ c.loop-place.invariant (omega (arith, c.loop-place-test.false))) }
 
 pub returns-then-read_word-padded_word : goal.returns-then-read_word-padded_word
 returns-then-read_word-padded_word c =
     record {
-      result = (search_ended _ _ _ _ _ _ _ c.loop-left.invariant (omega arith) refl
+      result = (search_ended _ _ _ _ _ _ _ c.loop-place.invariant (omega arith) refl
           c.read_word.ensures.result c.padded_word.ensures.result c.if-read_word-padded_word.true);
     }

@@ -7,6 +7,3 @@ use Rattle.log_cell_code.proofs.cells.bits_differ.Given as goal
 -- `log_cell_code::cells::bits_differ` meets its contract. Assumes nothing.
 abbrev pub invariant-loop-i : goal.invariant-loop-i
 invariant-loop-i l = Matching (word l.area) l.c l.i l.rest
-
-abbrev pub decreases-loop-i : goal.decreases-loop-i
-decreases-loop-i l = 6 - l.i

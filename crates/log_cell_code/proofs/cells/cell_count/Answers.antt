@@ -4,22 +4,22 @@ use Rattle.prelude.specs.Refusal.{refuse_if}
 use Rattle.message_log.specs.Area.{cells_of}
 use Rattle.log_cell_code.proofs.cells.cell_count.Goals as goal
 
-pub returns-then-len-lt896 : goal.returns-then-len-lt896
+pub returns-in-896-to-448000 : goal.returns-in-896-to-448000
 unfolding cells_of refuse_if
-returns-then-len-lt896 c =
+returns-in-896-to-448000 c =
     record { result = (search tests) }
 
-pub returns-then-len-gt448000 : goal.returns-then-len-gt448000
+pub returns-in_default : goal.returns-in_default
 unfolding cells_of refuse_if
-returns-then-len-gt448000 c =
+returns-in_default c =
     record { result = (search tests) }
 
-pub returns-then-len-ne0 : goal.returns-then-len-ne0
+pub returns-in_default-2 : goal.returns-in_default-2
 unfolding cells_of refuse_if
-returns-then-len-ne0 c =
+returns-in_default-2 c =
     record { result = (search tests) }
 
-pub returns : goal.returns
+pub returns-in_default-3 : goal.returns-in_default-3
 unfolding cells_of refuse_if
-returns c =
+returns-in_default-3 c =
     record { result = (search tests) }

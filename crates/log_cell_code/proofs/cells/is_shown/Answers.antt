@@ -3,18 +3,16 @@ use native.Mathlib.Nat.{mod-lt}
 use native.Mathlib.Omega.{arith}
 use Rattle.message_log.proofs.CellWords.{shown_zero, shown_high, shown_old, shown_by}
 use Rattle.log_cell_code.proofs.cells.is_shown.Goals as goal
+use Rattle.log_cell_code.proofs.cells.is_shown.Goals.{then-number-eq0-via-then-number-eq0, then-number-eq0-via-else-number-eq0+then-top-number, then-number-eq0-via-else-number-eq0+else-top-number+then-k-top}
 
 pub returns-then-number-eq0 : goal.returns-then-number-eq0
 returns-then-number-eq0 c =
-    record { result = (shown_zero _ _ _ _ c.highest_number-top.ensures.result c.if-number-eq0.true) }
-
-pub returns-then-top-number : goal.returns-then-top-number
-returns-then-top-number c =
-    record { result = (shown_high _ _ _ _ c.highest_number-top.ensures.result c.if-top-number.true) }
-
-pub returns-then-k-top : goal.returns-then-k-top
-returns-then-k-top c =
-    record { result = (shown_old _ _ _ _ c.highest_number-top.ensures.result c.if-k-top.true) }
+    let top_is = c.highest_number-top.ensures.result in
+    elim c.then-number-eq0.branch [
+      | then-number-eq0-via-then-number-eq0 w ↦ record { result = shown_zero _ _ _ _ top_is w.if-number-eq0.true }
+      | then-number-eq0-via-else-number-eq0+then-top-number w ↦ record { result = shown_high _ _ _ _ top_is w.if-top-number.true }
+      | then-number-eq0-via-else-number-eq0+else-top-number+then-k-top w ↦ record { result = shown_old _ _ _ _ top_is w.if-k-top.true }
+    ]
 
 pub number_in-requires : goal.number_in-requires
 number_in-requires c =

@@ -10,7 +10,7 @@ loop-j-init c =
 
 pub loop-j-preserved : goal.loop-j-preserved
 loop-j-preserved c =
-    fill_next _ _ _ _ _ _ _ _ _ _ _ _ _ _ c.loop-j.invariant (search rules) refl refl c.padded_word-v.ensures.result refl refl
+    fill_next _ _ _ _ _ _ _ _ _ _ _ _ _ _ c.loop-j.invariant (search rules) refl refl c.padded_word.ensures.result refl refl
 
 pub shape_of-at : goal.shape_of-at
 shape_of-at c =

@@ -7,6 +7,3 @@ use Rattle.log_stores_code.proofs.filling.fill_line.Given as goal
 -- `log_stores_code::filling::fill_line` meets its contract. Assumes nothing.
 abbrev pub invariant-loop-j : goal.invariant-loop-j
 invariant-loop-j l = RunFilling (8 * l.n) (message_line l.message l.i) l.count l.from l.initial.at l.initial.value l.j l.at l.value
-
-abbrev pub decreases-loop-j : goal.decreases-loop-j
-decreases-loop-j l = l.count - l.j

@@ -9,6 +9,3 @@ use Rattle.log_stores_code.proofs.filling.fill_marked.Given as goal
 abbrev pub invariant-loop-j : goal.invariant-loop-j
 invariant-loop-j l =
     RunFilling (8 * (7 * l.c)) (marked l.stamp l.number (marked_body l.size l.pairs)) 8 0 l.initial.at l.initial.value l.j l.at l.value
-
-abbrev pub decreases-loop-j : goal.decreases-loop-j
-decreases-loop-j l = 8 - l.j

@@ -4,17 +4,17 @@ use Rattle.prelude.specs.Refusal.{refuse_if}
 use Rattle.message_log.specs.Append.{message_fault}
 use Rattle.log_stores_code.proofs.planning.message_fault.Goals as goal
 
-pub returns-then-size-eq0 : goal.returns-then-size-eq0
+pub returns-in-1-to-384 : goal.returns-in-1-to-384
 unfolding message_fault refuse_if
-returns-then-size-eq0 c =
+returns-in-1-to-384 c =
     search tests
 
-pub returns-then-size-gt384 : goal.returns-then-size-gt384
+pub returns-in_default : goal.returns-in_default
 unfolding message_fault refuse_if
-returns-then-size-gt384 c =
+returns-in_default c =
     search tests
 
-pub returns : goal.returns
+pub returns-in_default-2 : goal.returns-in_default-2
 unfolding message_fault refuse_if
-returns c =
+returns-in_default-2 c =
     search tests

@@ -7,12 +7,10 @@ use Rattle.prelude.proofs.Refusals.{refuse_if-true, refuse_if-false}
 use Rattle.layout.specs.Line.{version_fault}
 use Rattle.log_stores_code.proofs.planning.number_fault.Goals as goal
 
-pub returns-then-last-ge9223372036854775807 : goal.returns-then-last-ge9223372036854775807
+pub returns-then-last : goal.returns-then-last
 unfolding version_fault
-returns-then-last-ge9223372036854775807 c =
-    sym (refuse_if-true _ 9 0 (le-leb (2 ^ 63) (suc c.args.last) (omega (arith, c.if-last-ge9223372036854775807.true))))
+returns-then-last c = sym (refuse_if-true _ 9 0 (le-leb (2 ^ 63) (suc c.args.last) (omega (arith, c.if-last.true))))
 
-pub returns : goal.returns
+pub returns-else-last : goal.returns-else-last
 unfolding version_fault
-returns c =
-    sym (refuse_if-false _ 9 0 (lt-leb (2 ^ 63) (suc c.args.last) (omega (arith, c.if-last-ge9223372036854775807.false))))
+returns-else-last c = sym (refuse_if-false _ 9 0 (lt-leb (2 ^ 63) (suc c.args.last) (omega (arith, c.if-last.false))))

@@ -9,18 +9,18 @@ use Rattle.message_log.proofs.Pairs.{pair_within}
 use Rattle.message_log.proofs.Plans.{plan_start, plan_next, plan_room, count_room, plan_end}
 use Rattle.log_stores_code.proofs.planning.payload_plan.Goals as goal
 
-pub loop-left-init : goal.loop-left-init
-loop-left-init c =
+pub loop-i-init : goal.loop-i-init
+loop-i-init c =
     plan_start _ _ _
 
 pub differing_word-place-requires : goal.differing_word-place-requires
 differing_word-place-requires c =
-    record { room = omega (arith, c.loop-left.invariant.left); payload = omega (arith, c.loop-left.invariant.left) }
+    record { room = omega (arith, c.loop-i.invariant.left); payload = omega (arith, c.loop-i.invariant.left) }
 
 pub line_pair-requires : goal.line_pair-requires
 line_pair-requires c =
     record {
-      inside = record { room = omega (arith, c.loop-left.invariant.left); payload = omega (arith, c.loop-left.invariant.left) };
+      inside = record { room = omega (arith, c.loop-i.invariant.left); payload = omega (arith, c.loop-i.invariant.left) };
       found = c.differing_word-place.ensures.result;
     }
 
@@ -31,7 +31,7 @@ overflow_mul-pairs c =
       plan_room (word c.args.area.now) c.args.c c.args.message.now _ _ _ _
           (λ j. word_range c.args.area.now j (λ x. (c.shared_slice_known-1.given x).fits))
           (λ x. (c.shared_slice_known-2-1.given x).fits)
-          c.loop-left.invariant (search rules) _ _ c.line_pair.ensures.result,
+          c.loop-i.invariant (search rules) _ _ c.line_pair.ensures.result,
     )
 
 pub overflow_add-pairs : goal.overflow_add-pairs
@@ -41,7 +41,7 @@ overflow_add-pairs c =
       plan_room (word c.args.area.now) c.args.c c.args.message.now _ _ _ _
           (λ j. word_range c.args.area.now j (λ x. (c.shared_slice_known-1.given x).fits))
           (λ x. (c.shared_slice_known-2-1.given x).fits)
-          c.loop-left.invariant (search rules) _ _ c.line_pair.ensures.result,
+          c.loop-i.invariant (search rules) _ _ c.line_pair.ensures.result,
     )
 
 pub store_count-count-requires : goal.store_count-count-requires
@@ -52,15 +52,15 @@ pub overflow_add-count : goal.overflow_add-count
 overflow_add-count c =
     omega (
       arith,
-      count_room (word c.args.area.now) c.args.c c.args.message.now _ _ _ _ _ _ c.loop-left.invariant
+      count_room (word c.args.area.now) c.args.c c.args.message.now _ _ _ _ _ _ c.loop-i.invariant
           (search rules) (c.store_count-count.ensures.result ∙ ap store_count c.differing_word-place.ensures.result),
     )
 
-pub loop-left-preserved : goal.loop-left-preserved
-loop-left-preserved c =
-    plan_next _ _ _ _ _ _ _ _ _ _ c.loop-left.invariant (search rules) refl refl
+pub loop-i-preserved : goal.loop-i-preserved
+loop-i-preserved c =
+    plan_next _ _ _ _ _ _ _ _ _ _ c.loop-i.invariant (search rules) refl refl
     (c.store_count-count.ensures.result ∙ ap store_count c.differing_word-place.ensures.result) c.line_pair.ensures.result
 
 pub returns : goal.returns
 returns c =
-    plan_end _ _ _ _ _ _ c.loop-left.invariant c.loop-left-test.false
+    plan_end _ _ _ _ _ _ c.loop-i.invariant c.loop-i-test.false
