@@ -20,9 +20,10 @@ fn record_place(kind: u64, low: u64, b: usize) -> u32
     ensures { (high : ℕ) → result ≡ cond (eqb kind 2) 0 (head_of (key_with low high) b + 1) }
 {
     if kind == 2 {
-        return 0;
+        0
+    } else {
+        head_of(low, b) as u32 + 1
     }
-    head_of(low, b) as u32 + 1
 }
 
 // What is kept of a valid slot.
@@ -49,48 +50,36 @@ fn summary(image: &[u8], l: usize, s: usize, b: usize) -> Summary
     ensures { Summed l (word image.now) s b result }
 {
     let mark = mark_fault(image, s);
-    let verdict = slot_verdict(image, s);
-    match verdict {
+    let nothing = Summary {
+        rank: 0,
+        low: 0,
+        high: 0,
+        place: 0,
+        top: 0,
+        mark,
+        fault: 0,
+    };
+    match slot_verdict(image, s) {
         Verdict::Valid(version) => valid_summary(image, l, s, b, version, mark),
-        Verdict::Empty => Summary {
-            rank: 1,
-            low: 0,
-            high: 0,
-            place: 0,
-            top: 0,
-            mark,
-            fault: 0,
-        },
-        Verdict::Broken(top) => Summary {
-            rank: 0,
-            low: 0,
-            high: 0,
-            place: 0,
-            top,
-            mark,
-            fault: 0,
-        },
+        Verdict::Empty => Summary { rank: 1, ..nothing },
+        Verdict::Broken(top) => Summary { top, ..nothing },
     }
 }
 
 // The first number unless it is 0, then the second.
+#[tactic(auto, unfolding(prelude::specs::Refusal::or_else))]
 fn first_of(a: u32, b: u32) -> u32
     ensures { result ≡ or_else a b }
 {
-    if a != 0 {
-        return a;
-    }
-    b
+    if a != 0 { a } else { b }
 }
 
 // Slot s where it has a fault, else 0.
+#[tactic(auto, unfolding(prelude::specs::Refusal::refuse_if))]
 fn slot_at_fault(fault: u32, s: u32) -> u32
     ensures { result ≡ refuse_if (eqb fault 0) 0 s }
 {
-    if fault == 0 {
-        return 0;
-    }
-    s
+    if fault == 0 { 0 } else { s }
 }
 
 // The count with one more where the test holds.
@@ -98,20 +87,15 @@ fn count_if(count: u32, test: bool) -> u32
     requires { count < 65536 }
     ensures { result ≡ cond test (suc count) count }
 {
-    if test {
-        return count + 1;
-    }
-    count
+    count + u32::from(test)
 }
 
 // Is a slot of this rank and this place a remove?
+#[tactic(auto, unfolding(recovery::specs::inner::Scan::is_remove_by))]
 fn is_remove(rank: u64, place: u32) -> bool
     ensures { result ≡ is_remove_by rank place }
 {
-    if rank < 2 {
-        return false;
-    }
-    place == 0
+    2 <= rank && place == 0
 }
 
 // The classes with one slot more, of this rank and this place.
@@ -167,8 +151,7 @@ pub fn scan(
         },
         top: 0,
     };
-    let mut s = 1;
-    while s <= n {
+    for s in 1..=n {
         let slot = summary(image, l, s, b);
         ranks[s] = slot.rank;
         lows[s] = slot.low;
@@ -177,7 +160,6 @@ pub fn scan(
         }
         places[s] = slot.place;
         all = joined(all, slot, s as u32);
-        s += 1;
     }
     all
 }

@@ -1,39 +1,26 @@
 -- Answers of `recovery_scan_code::scanning::scan`.
-use mathlib.Core.Logic.{⊎_elim}
-use mathlib.Core.Path.{sym, ◌∙◌}
-use Prim.Native.Nat.{◌+◌, ◌-◌}
+use Prim.Native.Nat.{◌+◌}
 use native.Mathlib.Omega.{arith}
-use borrow.Author.Rules.{rules}
+use lib.ListN.{set}
 use Rattle.words.specs.Word.{word}
-use Rattle.recovery.proofs.Scans.{high_inside, high-set, high_left, Scanning, scan_start, scan_next, classes_few, scan_end}
+use Rattle.recovery.proofs.Scans.{Scanning, high-set, high_left, scan_start, scan_next, classes_few, scan_end}
 use Rattle.recovery_scan_code.proofs.scanning.scan.Goals as goal
-use Rattle.recovery_scan_code.proofs.scanning.scan.Goals.{then-l-eq2, else-l-eq2}
+use Rattle.recovery_scan_code.proofs.scanning.scan.Goals.{After-joined-all, then-l-eq2, else-l-eq2}
 
 pub loop-s-init : goal.loop-s-init
 loop-s-init c =
     scan_start _ _ _ _ _ _ _ _ c.requires
 
-pub summary-slot-requires : goal.summary-slot-requires
-summary-slot-requires c = (
-  record { layout = c.requires.layout; room = omega (arith, c.requires.image-size, c.loop-s-test.true) },
-  c.requires.heads_low,
-  c.requires.heads_high,
-)
-
-pub bounds-highs-s : goal.bounds-highs-s
-bounds-highs-s c =
-    high_inside _ _ _ c.loop-s.highs c.if-l-eq2.true c.loop-s.invariant.highs_size c.loop-s-test.true
-
-pub overflow_cast-s : goal.overflow_cast-s
-overflow_cast-s c =
-    omega (arith, c.loop-s-test.true, c.requires.few)
-
 pub joined-all-requires : goal.joined-all-requires
 joined-all-requires c =
     omega (arith, classes_few _ _ _ _ _ _ _ _ _ _ c.loop-s.invariant, c.requires.few)
 
-pub loop-s-preserved : goal.loop-s-preserved
-loop-s-preserved c =
+-- slot s is scanned
+with_slot : (c : After-joined-all)
+    → Scanning c.args.l (word c.args.image.now) c.args.n c.args.b (set c.loop-s.ranks c.loop-s.s c.summary-slot.result.rank)
+    (set c.loop-s.lows c.loop-s.s c.summary-slot.result.low) c.if-l-eq2.highs
+    (set c.loop-s.places c.loop-s.s c.summary-slot.result.place) c.joined-all.result (c.loop-s.s + 1)
+with_slot c =
     scan_next _ _ _ _ _ _ _ _ _ _ _ _ _ c.loop-s.invariant c.loop-s-test.true c.summary-slot.ensures
     (elim c.if-l-eq2.branch [
       | then-l-eq2 w ↦ high-set _ _ _ _ _ _ w.if-l-eq2.true c.loop-s.invariant.highs_size c.loop-s-test.true w.highs-is
@@ -41,22 +28,10 @@ loop-s-preserved c =
     ])
     c.joined-all.ensures
 
-pub shape_of-ranks : goal.shape_of-ranks
-shape_of-ranks c =
-    c.loop-s.invariant.ranks_size ∙ sym c.requires.ranks_size
+pub loop-s-preserved : goal.loop-s-preserved
+loop-s-preserved c =
+    with_slot (goal.at-loop-s-preserved c).After-joined-all
 
-pub shape_of-lows : goal.shape_of-lows
-shape_of-lows c =
-    c.loop-s.invariant.lows_size ∙ sym c.requires.lows_size
-
-pub shape_of-highs : goal.shape_of-highs
-shape_of-highs c =
-    c.loop-s.invariant.highs_size ∙ sym c.requires.highs_size
-
-pub shape_of-places : goal.shape_of-places
-shape_of-places c =
-    c.loop-s.invariant.places_size ∙ sym c.requires.places_size
-
-pub returns : goal.returns
-returns c =
-    record { result = (scan_end _ _ _ _ _ _ _ _ _ _ c.loop-s.invariant c.loop-s-test.false) }
+pub returns-after-l-eq2 : goal.returns-after-l-eq2
+returns-after-l-eq2 c =
+    record { result = scan_end _ _ _ _ _ _ _ _ _ _ (with_slot (goal.at-returns-after-l-eq2 c).After-joined-all) (omega arith) }
