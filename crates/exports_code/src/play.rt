@@ -2,17 +2,16 @@
 ghost use Rattle.std.specs.Prelude.{◌≡◌};
 ghost use Rattle.interface.specs.Set.{play_end, play_result};
 
+use crate::refusal::return_code;
 use orderset::{Stores, play};
 
 // The first a stores of the first half and the first b of the second are made.
 pub fn play_lent(image: &mut [u8], at: &[u32; 16], value: &[u64; 16], a: usize, b: usize) -> u32
     ensures result { play_end result image.new ≡ play_result image.old at.now value.now a b }
 {
-    let places = *at;
-    let words = *value;
     let stores = Stores {
-        at: places,
-        value: words,
+        at: *at,
+        value: *value,
     };
-    play(image, stores, a, b)
+    return_code(play(image, stores, a, b))
 }

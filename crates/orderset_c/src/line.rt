@@ -2,6 +2,7 @@
 ghost use Rattle.std.specs.Prelude.{◌≡◌};
 ghost use Rattle.linequery.specs.Query.{query_end, whole_query, version_query, first_query, last_query};
 
+use exports_code::refusal::return_code;
 use linequery_code::{first_query, last_query, version_query, whole_query};
 
 // The answer is 1 for a whole line and 0 for an open one.
@@ -9,7 +10,7 @@ use linequery_code::{first_query, last_query, version_query, whole_query};
 pub extern "C" fn orderset_proved_line_whole(line: &[u8], answer: &mut [u8]) -> u32
     ensures result { query_end result answer.new ≡ whole_query line.now answer.old }
 {
-    whole_query(line, answer)
+    return_code(whole_query(line, answer))
 }
 
 // The answer is the version in the line's stamp.
@@ -17,7 +18,7 @@ pub extern "C" fn orderset_proved_line_whole(line: &[u8], answer: &mut [u8]) -> 
 pub extern "C" fn orderset_proved_line_version(line: &[u8], answer: &mut [u8]) -> u32
     ensures result { query_end result answer.new ≡ version_query line.now answer.old }
 {
-    version_query(line, answer)
+    return_code(version_query(line, answer))
 }
 
 // The answer is the first word that a call of this version stores into the line.
@@ -25,7 +26,7 @@ pub extern "C" fn orderset_proved_line_version(line: &[u8], answer: &mut [u8]) -
 pub extern "C" fn orderset_proved_line_first(line: &[u8], version: u64, answer: &mut [u8]) -> u32
     ensures result { query_end result answer.new ≡ first_query version line.now answer.old }
 {
-    first_query(line, version, answer)
+    return_code(first_query(line, version, answer))
 }
 
 // The answer is the last word that it stores.
@@ -33,5 +34,5 @@ pub extern "C" fn orderset_proved_line_first(line: &[u8], version: u64, answer: 
 pub extern "C" fn orderset_proved_line_last(line: &[u8], version: u64, answer: &mut [u8]) -> u32
     ensures result { query_end result answer.new ≡ last_query version line.now answer.old }
 {
-    last_query(line, version, answer)
+    return_code(last_query(line, version, answer))
 }

@@ -3,6 +3,7 @@ ghost use Rattle.std.specs.Prelude.{◌≡◌};
 ghost use Rattle.interface.specs.Set.{play_end, play_result, play_list_result};
 
 use exports_code::play::play_lent;
+use exports_code::refusal::return_code;
 use orderset::play_list;
 
 // The first a stores of the first half and the first b of the second are made.
@@ -24,5 +25,5 @@ pub extern "C" fn orderset_proved_play(
 pub extern "C" fn orderset_proved_play_list(image: &mut [u8], at: &[u32], value: &[u64]) -> u32
     ensures result { play_end result image.new ≡ play_list_result image.old at.now value.now }
 {
-    play_list(image, at, value)
+    return_code(play_list(image, at, value))
 }
