@@ -7,6 +7,9 @@ use native.Mathlib.Omega.{arith}
 use lib.Dec.{eqb, ltb, leb}
 use lib.ListN.{length, get_or, set, length-set}
 use lib.Seq.{get_or-set_same, get_or-set_other}
+use Rattle.std.specs.Bool.{MatchBool}
+use Rattle.std.specs.List.{range_with_len, AllWithin}
+use Rattle.std.proofs.lemmas.List.FromFn.{length-range_with_len, get_or-range_with_len}
 use borrow.Author.Tests.{eq-eqb, ne_eqb, lt-ltb, le-ltb, eqb-true, eqb-false, ltb-true, ltb-false}
 use Rattle.words.specs.Word.{word}
 use Rattle.prelude.specs.Range.{any_of, greatest}
@@ -142,21 +145,16 @@ module _ (m : ℕ → ℕ) (slots : List ℕ) where
 pub not_above : (strict b : Bool) (known v : ℕ) → b ≡ strict && ltb known v → b ≡ false → strict ≡ true → v ≤ known
 not_above strict b known v e f q = ltb-false known v (sym (ap (λ (x : Bool). x && ltb known v) q) ∙ sym e ∙ f)
 
--- ---- the pass: the slots 1 to t are clear
+-- ---- the pass: each of the slots 1 to n is clear, or it ends at the first that is not
 
-module _ (l : ℕ) (image slots : List ℕ) (k known : ℕ) (strict : Bool) where
-  pub clear_none : Clear l image slots k known strict 0
-  clear_none u i = absurd (omega arith)
-
-  pub clear_one : (t : ℕ) → Clear l image slots k known strict t → ClearAt l image slots k known strict (t + 1) → Clear l image slots k known strict (t + 1)
-  clear_one t c a u i = go (ltb t u) refl
-    where
-      go : (b : Bool) → ltb t u ≡ b → ClearAt l image slots k known strict u
-      go true e = let q : t + 1 ≡ u = omega (arith, ltb-true t u e) in subst (ClearAt l image slots k known strict) q a
-      go false e = c u (omega (arith, ltb-false t u e))
-
-  pub clear_all : (n t : ℕ) → Clear l image slots k known strict t → n ≤ t → Clear l image slots k known strict n
-  clear_all n t c h u i = c u (omega arith)
+pub clear_by_pass_over : (l : ℕ) (image slots : List ℕ) (k known : ℕ) (strict : Bool) (n : ℕ) (Hit : Type 0) (r : Bool)
+    → MatchBool r Hit (AllWithin (ClearAt l image slots k known strict) (range_with_len 1 n) 0 (length (range_with_len 1 n))) → r ≡ false
+    → Clear l image slots k known strict n
+clear_by_pass_over l image slots k known strict n Hit true h e t i = absurd (true≢false e)
+clear_by_pass_over l image slots k known strict n Hit false h e t i =
+    let low : t - 1 < length (range_with_len 1 n) = omega (arith, length-range_with_len 1 n) in
+    let at : get_or (range_with_len 1 n) (t - 1) 0 ≡ t = get_or-range_with_len 1 n (t - 1) 0 (omega arith) ∙ omega arith in
+    subst (ClearAt l image slots k known strict) at (h (t - 1) 0 (omega arith) low)
 
 -- ---- slots that one test takes and another one may take too: the walk by the other is not refused
 

@@ -1,15 +1,19 @@
 -- What the functions that test slots answer: a slot's version, the highest of all, an older record of a key, and whether a slot may be taken. Assumes nothing.
 use mathlib.Core.Path.{◌≡◌, refl, sym, ap, ap₂, ◌∙◌, subst, fun_ext}
-use mathlib.Core.Bool.{Bool, true, false, cond, not, ◌&&◌, true≢false}
-use mathlib.Core.List.{List}
+use mathlib.Core.Bool.{Bool, true, false, cond, not, ◌&&◌, ◌||◌, true≢false}
+use mathlib.Core.List.{List, [], ◌∷◌, ◌++◌}
 use Prim.Native.Nat.{ℕ, zero, suc, ◌+◌, ◌-◌, ◌*◌, ◌/◌, ◌≤◌, ◌<◌, max}
 use native.Mathlib.Omega.{arith}
 use lib.Dec.{eqb, ltb}
-use lib.ListN.{get_or}
+use lib.ListN.{get_or, length, take}
+use Rattle.std.specs.Bool.{MatchBool}
+use Rattle.std.specs.List.{list_any, range_with_len, AllWithin, HoldsAt}
+use Rattle.std.proofs.Math.Seq.{take-suc}
+use Rattle.std.proofs.lemmas.List.{get_or-take, get_or_default, length-take}
 use borrow.Author.Tests.{lt-ltb, le-ltb, eq-eqb, eqb-true, eqb-false, ltb-true}
 use Rattle.prelude.specs.Range.{any_of, greatest}
 use Rattle.prelude.specs.Filter.{any_in}
-use Rattle.prelude.proofs.Choice.{both_left, both_right, pick_true, pick_false}
+use Rattle.prelude.proofs.Choice.{both_left, both_right}
 use Rattle.layout.specs.Line.{line_a, line_b, version_of}
 use Rattle.layout.specs.Slot.{paired, verdict_of, line_verdict, slot_verdict}
 use Rattle.layout.specs.Record.{Layout, kind_of, key_of, key_with}
@@ -21,7 +25,7 @@ use Rattle.layout.proofs.KeyWords.{key_parts}
 use Rattle.table.specs.Table.{is_record}
 use Rattle.table.specs.Takeable.{is_remove, older, takeable_if}
 use Rattle.allocation.specs.inner.Takeable.{version_in, slot_version, older_than, takeable, low_put}
-use Rattle.allocation.specs.inner.Choice.{chosen_of}
+use Rattle.allocation.specs.inner.Choice.{chosen_of, ChosenInside}
 use Rattle.allocation.proofs.Contents.{Holds, slot_holds, older_none, older_other, older_same, take_none, take_high, take_put, take_blind, take_looked}
 use Rattle.allocation.proofs.Contents.{if_high, if_remove, older_here}
 
@@ -40,27 +44,71 @@ module _ (m : ℕ → ℕ) (s : ℕ) (d : Verdict) (e : d ≡ slot_verdict m s) 
   unfolding slot_version version_in
   version_broken top q = ap version_in (sym q ∙ e)
 
--- ---- highest_valid: the slots up to s are seen
+-- ---- highest_valid: v is the version of slot s, and top the highest of those before it
 
-pub record Seen (g : ℕ → ℕ) (n top s : ℕ) : Type 0 where
-  pub position : s ≤ n
-  pub highest : top ≡ greatest g s
-
-pub seen_none : (g : ℕ → ℕ) (n : ℕ) → Seen g n 0 0
+pub greatest_next : (g : ℕ → ℕ) (s top v r : ℕ) → 1 ≤ s → top ≡ greatest g (s - 1) → v ≡ g s → r ≡ max top v → r ≡ greatest g (s + 1 - 1)
 unfolding greatest
-seen_none g n = record { position = omega arith; highest = refl }
+greatest_next g s top v r h e f q =
+    let d : suc (s - 1) ≡ s = omega arith in
+    let here : s ≡ s + 1 - 1 = omega arith in
+    q ∙ ap₂ max e (f ∙ ap g (sym d)) ∙ ap (greatest g) (d ∙ here)
 
-pub seen_one : (g : ℕ → ℕ) (n top s : ℕ) → Seen g n top s → s < n → (v r : ℕ) → v ≡ g (s + 1) → r ≡ max top v → Seen g n r (s + 1)
-unfolding greatest
-seen_one g n top s k h v r e q =
-    let d : suc s ≡ s + 1 = omega arith in
-    record {
-      position = omega arith;
-      highest = q ∙ ap₂ max k.highest (e ∙ ap g (sym d)) ∙ ap (greatest g) d;
-    }
+-- ---- what `any` of a chain answers by its two cases, over a list, over the n numbers from k on and over the first k slots that are chosen
 
-pub seen_all : (g : ℕ → ℕ) (n top s : ℕ) → Seen g n top s → n ≤ s → top ≡ greatest g n
-seen_all g n top s k h = let d : s ≡ n = omega (arith, k.position) in k.highest ∙ ap (greatest g) d
+pub any_by_cases : (p : ℕ → Bool) (xs : List ℕ) (r : Bool) → MatchBool r ((k : ℕ) × (k < length xs) × HoldsAt (λ x. p x ≡ true) xs k)
+    (AllWithin (λ x. p x ≡ false) xs 0 (length xs)) → r ≡ list_any p xs
+any_by_cases p [] true (k, h, y) = absurd (omega arith)
+any_by_cases p [] false h = refl
+any_by_cases p (x ∷ xs) true (zero, h, y) = sym (ap (λ (b : Bool). b || list_any p xs) (y 0))
+any_by_cases p (x ∷ xs) true (suc k, h, y) = go (p x) (any_by_cases p xs true (k, omega arith, y))
+  where
+    go : (b : Bool) → true ≡ list_any p xs → true ≡ b || list_any p xs
+    go true q = refl
+    go false q = q
+any_by_cases p (x ∷ xs) false h =
+    any_by_cases p xs false (λ k d low high. h (suc k) d (omega arith) (omega arith))
+    ∙ sym (ap (λ (b : Bool). b || list_any p xs) (h 0 0 (omega arith) (omega arith)))
+
+pub either_is : (a b : Bool) → a || b ≡ cond a true b
+either_is true b = refl
+either_is false b = refl
+
+pub any_in_range : (p : ℕ → Bool) (k n : ℕ) → list_any p (range_with_len k n) ≡ any_of p k n
+unfolding any_of
+any_in_range p k zero = refl
+any_in_range p k (suc n) =
+    let next : k + 1 ≡ suc k = omega arith in
+    either_is (p k) _ ∙ ap (λ (b : Bool). cond (p k) true b) (any_in_range p (k + 1) n ∙ ap (λ (x : ℕ). any_of p x n) next)
+
+any_and_last : (p : ℕ → Bool) (xs : List ℕ) (x : ℕ) → list_any p (xs ++ x ∷ []) ≡ cond (p x) true (list_any p xs)
+any_and_last p [] x = either_is (p x) false
+any_and_last p (y ∷ xs) x = ap (λ (b : Bool). p y || b) (any_and_last p xs x) ∙ go (p y) (p x) (list_any p xs)
+  where
+    go : (a b c : Bool) → a || cond b true c ≡ cond b true (a || c)
+    go true true c = refl
+    go true false c = refl
+    go false b c = refl
+
+pub any_chosen : (p : ℕ → Bool) (slots : List ℕ) (k : ℕ) → k ≤ length slots → list_any p (take k slots) ≡ any_in p (chosen_of slots k)
+unfolding any_in chosen_of
+any_chosen p slots zero h = refl
+any_chosen p slots (suc k) h =
+    ap (list_any p) (take-suc slots k 0 h) ∙ any_and_last p (take k slots) (get_or slots k 0)
+    ∙ ap (λ (b : Bool). cond (p (get_or slots k 0)) true b) (any_chosen p slots k (omega arith))
+
+-- the slot at an index below k is the array's, and the image has it
+pub chosen_slot : (slots : List ℕ) (got k d : ℕ) → k < length (take got slots) → get_or (take got slots) k d ≡ get_or slots k 0
+chosen_slot slots got k d h =
+    let few : k < got = omega (arith, length-take got slots) in
+    let room : k < length slots = omega (arith, length-take got slots) in
+    get_or-take got slots k d few ∙ get_or_default slots k d 0 room
+
+pub chosen_room : (image slots : List ℕ) (got : ℕ) → ChosenInside image slots got → (k s : ℕ) → k < length (take got slots) → s ≡ get_or (take got slots) k s
+    → 128 * (s + 1) ≤ length image
+chosen_room image slots got c k s h e =
+    let few : k < got = omega (arith, length-take got slots) in
+    let here : s ≡ get_or slots k 0 = e ∙ chosen_slot slots got k s h in
+    omega (arith, here, c.inside k few)
 
 -- ---- is_older: v is the version of slot t
 
@@ -190,30 +238,3 @@ module _ (l : ℕ) (m : ℕ → ℕ) (n top s : ℕ) (chosen : List ℕ) (sure :
           (a ∙ ap (λ (key : ℕ). any_in (older_than (content l m) key v) chosen) (ap₂ key_with p w ∙ sym (key_parts l (line_a m s) lay))
           ∙ ap (λ (t : ℕ → Bool). any_in t chosen) (fun_ext (older_here (content l m) s _ _ _ holds n top false valid remove)))
           ∙ sym (if_remove (content l m) s _ _ _ holds top _ valid low remove)
-
--- ---- chosen_older: a search of the slots chosen, from the last on
-
-pub record Looking (p : ℕ → Bool) (slots : List ℕ) (k j : ℕ) : Type 0 where
-  pub position : j ≤ k
-  pub rest : any_in p (chosen_of slots j) ≡ any_in p (chosen_of slots k)
-
-module _ (p : ℕ → Bool) (slots : List ℕ) (k j : ℕ) (w : Looking p slots k j) where
-  looked : 0 < j → any_in p (chosen_of slots j) ≡ cond (p (get_or slots (j - 1) 0)) true (any_in p (chosen_of slots (j - 1)))
-  unfolding any_in chosen_of
-  looked h = go j h
-    where
-      go : (i : ℕ) → 0 < i → any_in p (chosen_of slots i) ≡ cond (p (get_or slots (i - 1) 0)) true (any_in p (chosen_of slots (i - 1)))
-      go zero q = absurd (omega arith)
-      go (suc i) q =
-          let d : i ≡ suc i - 1 = omega arith in ap (λ (x : ℕ). cond (p (get_or slots x 0)) true (any_in p (chosen_of slots x))) d
-
-  pub looking_hit : 0 < j → p (get_or slots (j - 1) 0) ≡ true → true ≡ any_in p (chosen_of slots k)
-  looking_hit h e = sym (looked h ∙ pick_true (p (get_or slots (j - 1) 0)) _ _ e) ∙ w.rest
-
-  pub looking_on : 0 < j → p (get_or slots (j - 1) 0) ≡ false → Looking p slots k (j - 1)
-  looking_on h e =
-      record { position = omega (arith, w.position); rest = sym (looked h ∙ pick_false (p (get_or slots (j - 1) 0)) _ _ e) ∙ w.rest }
-
-  pub looking_ends : j ≤ 0 → false ≡ any_in p (chosen_of slots k)
-  unfolding any_in chosen_of
-  looking_ends h = let z : j ≡ 0 = omega arith in ap (λ (i : ℕ). any_in p (chosen_of slots i)) (sym z) ∙ w.rest

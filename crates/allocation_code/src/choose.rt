@@ -27,10 +27,7 @@ fn known_for(image: &[u8], n: usize, top: u64, exact: bool, s: usize) -> Known
         return Known { top, exact };
     }
     let version = valid_version(image, s);
-    if version == 0 {
-        return Known { top, exact };
-    }
-    if version < top {
+    if version == 0 || version < top {
         return Known { top, exact };
     }
     Known {
@@ -52,15 +49,9 @@ fn is_older_chosen(
     requires { Layout l × ChosenInside image.now slots got }
     ensures { result ≡ any_in (older_than (contents_of l image.now) (key_with low high) version) (chosen_of slots got) }
 {
-    let mut j = got;
-    while 0 < j {
-        j -= 1;
-        let t = slots[j] as usize;
-        if is_older(image, l, t, low, high, version) {
-            return true;
-        }
-    }
-    false
+    slots[..got]
+        .iter()
+        .any(|t| is_older(image, l, *t as usize, low, high, version))
 }
 
 // May slot s be taken after the first `got` slots, where no valid record of version `top` or above may? An older record
@@ -95,33 +86,23 @@ fn meet_below(image: &[u8], l: usize, next: &[u32], n: usize, p: Progress) -> Pr
     ensures { result ≡ met_below l image.now next.now p }
 {
     let slot = p.at as usize;
-    let link = next[slot];
+    let met = Progress {
+        at: next[slot],
+        left: p.left - 1,
+        ..p
+    };
+    if !may_take_after(image, l, n, p.top, p.slots, p.got, slot) {
+        return Progress { prev: p.at, ..met };
+    }
     let mut slots = p.slots;
     let mut prevs = p.prevs;
-    let got = p.got;
-    if may_take_after(image, l, n, p.top, slots, got, slot) {
-        slots[got] = p.at;
-        prevs[got] = p.prev;
-        return Progress {
-            at: link,
-            prev: p.prev,
-            left: p.left - 1,
-            got: got + 1,
-            top: p.top,
-            exact: p.exact,
-            slots,
-            prevs,
-        };
-    }
+    slots[p.got] = p.at;
+    prevs[p.got] = p.prev;
     Progress {
-        at: link,
-        prev: p.at,
-        left: p.left - 1,
-        got,
-        top: p.top,
-        exact: p.exact,
+        got: p.got + 1,
         slots,
         prevs,
+        ..met
     }
 }
 
@@ -131,25 +112,8 @@ fn meet(image: &[u8], l: usize, next: &[u32], n: usize, p: Progress) -> Progress
     ensures { Met l image.now next.now n p result }
 {
     let slot = p.at as usize;
-    let known = known_for(image, n, p.top, p.exact, slot);
-    let slots = p.slots;
-    let prevs = p.prevs;
-    meet_below(
-        image,
-        l,
-        next,
-        n,
-        Progress {
-            at: p.at,
-            prev: p.prev,
-            left: p.left,
-            got: p.got,
-            top: known.top,
-            exact: known.exact,
-            slots,
-            prevs,
-        },
-    )
+    let Known { top, exact } = known_for(image, n, p.top, p.exact, slot);
+    meet_below(image, l, next, n, Progress { top, exact, ..p })
 }
 
 // No slots, with this refusal.
@@ -187,14 +151,12 @@ pub fn choose_below(
         slots: [0; 8],
         prevs: [0; 8],
     };
+    // A while: a step takes a slot or passes it over, so no range gives how many there are.
     while p.got < wanted {
         if p.at == 0 {
             return none_chosen(28);
         }
-        if n < p.at as usize {
-            return none_chosen(11);
-        }
-        if p.left == 0 {
+        if n < p.at as usize || p.left == 0 {
             return none_chosen(11);
         }
         p = meet_below(image, l, next, n, p);
@@ -203,8 +165,7 @@ pub fn choose_below(
     if fault != 0 {
         return none_chosen(fault);
     }
-    let slots = p.slots;
-    let prevs = p.prevs;
+    let Progress { slots, prevs, .. } = p;
     Choice {
         fault: 0,
         slots,
@@ -238,11 +199,11 @@ fn choose_unrefused(
         slots: [0; 8],
         prevs: [0; 8],
     };
+    // A while: a step takes a slot or passes it over, so no range gives how many there are.
     while p.got < wanted {
         p = meet(image, l, next, n, p);
     }
-    let slots = p.slots;
-    let prevs = p.prevs;
+    let Progress { slots, prevs, .. } = p;
     Choice {
         fault: 0,
         slots,
@@ -290,7 +251,8 @@ pub fn choose_by(
 {
     if own {
         let top = named_version(image, n, newest);
-        return choose_below(image, l, next, n, first, wanted, top);
+        choose_below(image, l, next, n, first, wanted, top)
+    } else {
+        choose(image, l, next, n, first, newest, wanted)
     }
-    choose(image, l, next, n, first, newest, wanted)
 }

@@ -31,15 +31,9 @@ fn is_older_left_in(image: &[u8], l: usize, slots: [u32; 8], got: usize, t: usiz
     requires { SlotInside image.now l t × ChosenInside image.now slots got }
     ensures { result ≡ any_in (λ s. older_left (contents_of l image.now) s t) (chosen_of slots got) }
 {
-    let mut j = got;
-    while 0 < j {
-        j -= 1;
-        let s = slots[j] as usize;
-        if is_older_left(image, l, s, t) {
-            return true;
-        }
-    }
-    false
+    slots[..got]
+        .iter()
+        .any(|s| is_older_left(image, l, *s as usize, t))
 }
 
 // Marks for the low key words of the first `got` slots. A slot without a mark has none of their keys, so the pass
@@ -48,12 +42,10 @@ fn key_marks(image: &[u8], slots: [u32; 8], got: usize) -> [u8; 4096]
     requires { ChosenInside image.now slots got }
     ensures { Marked (word image.now) slots result got }
 {
-    let mut marks: [u8; 4096] = [0; 4096];
-    let mut j = 0;
-    while j < got {
-        let low = slot_low(image, slots[j] as usize);
+    let mut marks = [0; 4096];
+    for slot in &slots[..got] {
+        let low = slot_low(image, *slot as usize);
         marks[(low % 4096) as usize] = 1;
-        j += 1;
     }
     marks
 }
@@ -63,10 +55,7 @@ fn is_version_above(image: &[u8], t: usize, known: u64, strict: bool) -> bool
     requires { 128 * (t + 1) ≤ length image.now }
     ensures { result ≡ strict && ltb known (slot_version (word image.now) t) }
 {
-    if strict {
-        return known < valid_version(image, t);
-    }
-    false
+    strict && known < valid_version(image, t)
 }
 
 // Does slot t have an older valid record of the key of a remove record among the first `got` slots, or, where strict, a
@@ -107,12 +96,5 @@ pub fn is_any_left(
     ensures result { result ≡ false → Clear l image.now slots got known strict n }
 {
     let marks = key_marks(image, slots, got);
-    let mut t = 0;
-    while t < n {
-        t += 1;
-        if is_left(image, l, slots, got, &marks, known, strict, t) {
-            return true;
-        }
-    }
-    false
+    (1..n + 1).any(|t| is_left(image, l, slots, got, &marks, known, strict, t))
 }

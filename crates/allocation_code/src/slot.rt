@@ -10,7 +10,7 @@ ghost use Rattle.allocation.specs.inner.Takeable.{slot_version, older_than, low_
 use layout::Verdict;
 use layout_fields_code::fields::{has_key, slot_high, slot_kind, slot_low};
 use layout_line_code::slot::slot_verdict;
-use words_code::{greater, read_word};
+use words_code::read_word;
 
 // The version of slot s where it is valid, else 0.
 pub fn valid_version(image: &[u8], s: usize) -> u64
@@ -19,8 +19,7 @@ pub fn valid_version(image: &[u8], s: usize) -> u64
 {
     match slot_verdict(image, s) {
         Verdict::Valid(version) => version,
-        Verdict::Empty => 0,
-        Verdict::Broken(_) => 0,
+        Verdict::Empty | Verdict::Broken(_) => 0,
     }
 }
 
@@ -29,11 +28,9 @@ pub fn highest_valid(image: &[u8], n: usize) -> u64
     requires { 128 * (n + 1) ≤ length image.now }
     ensures result { result ≡ greatest (slot_version (word image.now)) n }
 {
-    let mut top: u64 = 0;
-    let mut s = 0;
-    while s < n {
-        s += 1;
-        top = greater(top, valid_version(image, s));
+    let mut top = 0;
+    for s in 1..n + 1 {
+        top = top.max(valid_version(image, s));
     }
     top
 }
@@ -43,14 +40,11 @@ pub fn is_older(image: &[u8], l: usize, t: usize, low: u64, high: u64, version: 
     requires { SlotInside image.now l t }
     ensures result { result ≡ older_than (contents_of l image.now) (key_with low high) version t }
 {
-    if has_key(image, l, t, low, high) {
-        let found = valid_version(image, t);
-        if found == 0 {
-            return false;
-        }
-        return found < version;
+    if !has_key(image, l, t, low, high) {
+        return false;
     }
-    false
+    let found = valid_version(image, t);
+    found != 0 && found < version
 }
 
 // Does any of the slots 1 to n?
@@ -58,15 +52,7 @@ fn has_older(image: &[u8], l: usize, n: usize, low: u64, high: u64, version: u64
     requires { Layout l × (128 * (n + 1) ≤ length image.now) }
     ensures { result ≡ any_of (older_than (contents_of l image.now) (key_with low high) version) 1 n }
 {
-    let end = n + 1;
-    let mut t = 1;
-    while t < end {
-        if is_older(image, l, t, low, high, version) {
-            return true;
-        }
-        t += 1;
-    }
-    false
+    (1..n + 1).any(|t| is_older(image, l, t, low, high, version))
 }
 
 // Is slot s below this version by its line A, and no remove record? Then it may be taken, valid or not.
@@ -74,10 +60,7 @@ pub fn is_low(image: &[u8], l: usize, s: usize, top: u64) -> bool
     requires { SlotInside image.now l s }
     ensures result { result ≡ low_put l (word image.now) top s }
 {
-    if top <= read_word(image, 16 * s + 7) / 2 {
-        return false;
-    }
-    slot_kind(image, l, s) != 2
+    read_word(image, 16 * s + 7) / 2 < top && slot_kind(image, l, s) != 2
 }
 
 // May slot s be taken, where no valid record of version `top` or above may? Of a remove record an older record of its
@@ -86,22 +69,17 @@ fn is_takeable(image: &[u8], l: usize, n: usize, top: u64, scan: bool, s: usize)
     requires { SlotInside image.now l s × (128 * (n + 1) ≤ length image.now) }
     ensures { result ≡ takeable (contents_of l image.now) n top scan s }
 {
-    let version = valid_version(image, s);
-    if version == 0 {
-        return true;
+    match valid_version(image, s) {
+        0 => true,
+        version if top <= version => false,
+        _ if slot_kind(image, l, s) != 2 => true,
+        version if scan => {
+            let low = slot_low(image, s);
+            let high = slot_high(image, l, s);
+            !has_older(image, l, n, low, high, version)
+        }
+        _ => false,
     }
-    if top <= version {
-        return false;
-    }
-    if slot_kind(image, l, s) != 2 {
-        return true;
-    }
-    if scan {
-        let low = slot_low(image, s);
-        let high = slot_high(image, l, s);
-        return !has_older(image, l, n, low, high, version);
-    }
-    false
 }
 
 // The same, mostly by line A alone.
@@ -109,8 +87,5 @@ pub fn may_take(image: &[u8], l: usize, n: usize, top: u64, scan: bool, s: usize
     requires { SlotInside image.now l s × (128 * (n + 1) ≤ length image.now) }
     ensures result { result ≡ takeable (contents_of l image.now) n top scan s }
 {
-    if is_low(image, l, s, top) {
-        return true;
-    }
-    is_takeable(image, l, n, top, scan, s)
+    is_low(image, l, s, top) || is_takeable(image, l, n, top, scan, s)
 }

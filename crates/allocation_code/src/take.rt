@@ -18,10 +18,7 @@ use words_code::read_word;
 fn few_of(n: usize) -> usize
     ensures { result ≤ n }
 {
-    if n < 64 {
-        return n;
-    }
-    64
+    n.min(64)
 }
 
 // 11 by the link of the slot that is taken, else 0; so many slots may still be met.
@@ -56,9 +53,8 @@ fn walk_fault(
     ensures { result ≡ walk_fault (takeable (contents_of l image.now) n top scan) next.now n most wanted first }
 {
     let mut at = first;
-    let mut left = most;
     let mut need = wanted;
-    while 0 < left {
+    for left in (0..most).rev() {
         if at == 0 {
             return 28;
         }
@@ -66,7 +62,6 @@ fn walk_fault(
         if n < slot {
             return 11;
         }
-        left -= 1;
         at = next[slot];
         if may_take(image, l, n, top, scan, slot) {
             if need == 1 {
@@ -87,10 +82,7 @@ pub fn newest_version(image: &[u8], n: usize, newest: u32) -> u64
     ensures result { result ≤ greatest (slot_version (word image.now)) n }
 {
     let s = newest as usize;
-    if s == 0 {
-        return 0;
-    }
-    if n < s {
+    if s == 0 || n < s {
         return 0;
     }
     valid_version(image, s)
@@ -102,32 +94,14 @@ fn is_open(image: &[u8], l: usize, next: &[u32], n: usize, first: u32, known: u6
     ensures { result ≡ true → OpenFirst l (word image.now) next.now n known first }
 {
     let s = first as usize;
-    if s == 0 {
-        return false;
-    }
-    if n < s {
-        return false;
-    }
-    if n < next[s] as usize {
-        return false;
-    }
-    is_low(image, l, s, known)
+    s != 0 && s <= n && next[s] as usize <= n && is_low(image, l, s, known)
 }
 
 // What a step along the chain costs: 1 to a slot nearby, which the processor has at hand, 16 to any other.
 fn step_cost(from: usize, to: usize) -> usize
     ensures { result ≤ 16 }
 {
-    if from < to {
-        if 8 < to - from {
-            return 16;
-        }
-        return 1;
-    }
-    if 8 < from - to {
-        return 16;
-    }
-    1
+    if from.abs_diff(to) <= 8 { 1 } else { 16 }
 }
 
 // Are there enough slots ahead that by their line A are below this version and no remove records? The look ahead costs
@@ -149,16 +123,12 @@ fn is_clear_ahead(
         return walk_fault(image, l, next, n, first, few_of(n), wanted, known, false) == 0;
     }
     let mut at = first;
-    let mut left = n;
     let mut need = wanted;
     let mut budget = n / 2 + 1024;
     let mut from = first as usize;
-    while 0 < left {
-        if at == 0 {
-            return false;
-        }
+    for left in (0..n).rev() {
         let slot = at as usize;
-        if n < slot {
+        if slot == 0 || n < slot {
             return false;
         }
         let cost = step_cost(from, slot);
@@ -167,7 +137,6 @@ fn is_clear_ahead(
         }
         budget -= cost;
         from = slot;
-        left -= 1;
         at = next[slot];
         if is_low(image, l, slot, known) {
             if need == 1 {
@@ -198,11 +167,7 @@ fn is_clear_by(
         return false;
     }
     let choice = choose_below(image, l, next, n, first, wanted, known);
-    if choice.fault != 0 {
-        return false;
-    }
-    let slots = choice.slots;
-    !is_any_left(image, l, n, slots, wanted, known, strict)
+    choice.fault == 0 && !is_any_left(image, l, n, choice.slots, wanted, known, strict)
 }
 
 // 11 or 28 by the slots of the chain that may be taken, else 0, by the highest valid version. Where too few may be
@@ -296,10 +261,7 @@ pub fn is_own_open(image: &[u8], l: usize, next: &[u32], n: usize, first: u32, n
     ensures result { result ≡ true → take_fault (own_allocation l image.now next.now n first newest 1) ≡ 0 }
 {
     let t = first as usize;
-    if next[t] as usize <= n {
-        return read_word(image, 16 * t + 7) / 2 < named_version(image, n, newest);
-    }
-    false
+    next[t] as usize <= n && read_word(image, 16 * t + 7) / 2 < named_version(image, n, newest)
 }
 
 // 11 or 28 by the slot of a call for the owner of its index that wants one, else 0.
@@ -326,9 +288,10 @@ pub fn take_fault_by(
     ensures result { result ≡ take_fault (allocation_by own l image.now next.now n first newest 1) }
 {
     if own {
-        return own_fault(image, l, next, n, first, newest);
+        own_fault(image, l, next, n, first, newest)
+    } else {
+        take_fault(image, l, next, n, first, newest)
     }
-    take_fault(image, l, next, n, first, newest)
 }
 
 // Does the chain end after a few slots, with no link above n before?
@@ -337,8 +300,7 @@ fn is_ending(next: &[u32], n: usize, first: u32) -> bool
     ensures { result ≡ true → ends_well next.now n n first ≡ true }
 {
     let mut at = first;
-    let mut left = few_of(n);
-    while 0 < left {
+    for _left in (0..few_of(n)).rev() {
         if at == 0 {
             return true;
         }
@@ -346,7 +308,6 @@ fn is_ending(next: &[u32], n: usize, first: u32) -> bool
         if n < slot {
             return false;
         }
-        left -= 1;
         at = next[slot];
     }
     at == 0

@@ -1,10 +1,10 @@
 -- Answers of `allocation_code::choose::choose_below`.
 use mathlib.Core.Path.{refl}
 use native.Mathlib.Omega.{arith}
-use borrow.Author.Rules.{rules}
-use Rattle.allocation.proofs.Choices.{ChoosingBelow, choosing_starts, choice_at_end, choice_above, choice_over, meetable_here, below_on, below_left}
+use Rattle.allocation.proofs.Choices.{choosing_starts, choice_at_end, choice_above, choice_over, meetable_here, below_on, below_left}
 use Rattle.allocation.proofs.Choices.{choice_end_refused, choice_done}
 use Rattle.allocation_code.proofs.choose.choose_below.Goals as goal
+use Rattle.allocation_code.proofs.choose.choose_below.Goals.{then-n-p-via-then-n-p, then-n-p-via-else-n-p+then-p-eq0-2}
 
 pub loop-p-init : goal.loop-p-init
 loop-p-init c =
@@ -14,28 +14,15 @@ pub returns-then-p-eq0 : goal.returns-then-p-eq0
 returns-then-p-eq0 c =
     record { result = (choice_at_end _ _ _ _ _ _ c.loop-p.invariant.0 c.loop-p-test.true _ c.if-p-eq0.true c.none_chosen.ensures.result) }
 
-pub overflow_cast-p : goal.overflow_cast-p
-overflow_cast-p c =
-    omega (arith, c.loop-p.invariant.0.place)
-
 pub returns-then-n-p : goal.returns-then-n-p
 returns-then-n-p c =
-    record { result = (choice_above _ _ _ _ _ _ c.loop-p.invariant.0 c.loop-p-test.true _ c.if-n-p.true c.none_chosen-then-n-p.ensures.result) }
-
-pub returns-then-p-eq0-2 : goal.returns-then-p-eq0-2
-returns-then-p-eq0-2 c =
     record {
-      result = (choice_over _ _ _ _ _ _ c.loop-p.invariant.0 c.loop-p-test.true _ c.if-p-eq0.false c.if-p-eq0-2.true
-          c.none_chosen-then-p-eq0-2.ensures.result);
+      result = elim c.then-n-p.branch [
+        | then-n-p-via-then-n-p w ↦ choice_above _ _ _ _ _ _ c.loop-p.invariant.0 c.loop-p-test.true _ w.if-n-p.true c.none_chosen-then-n-p.ensures.result
+        | then-n-p-via-else-n-p+then-p-eq0-2 w ↦ choice_over _ _ _ _ _ _ c.loop-p.invariant.0 c.loop-p-test.true _ c.if-p-eq0.false w.if-p-eq0-2.true
+            c.none_chosen-then-n-p.ensures.result
+      ];
     }
-
-pub meet_below-p-requires : goal.meet_below-p-requires
-meet_below-p-requires c = (
-  c.requires.0,
-  meetable_here _ _ _ _ _ _ c.loop-p.invariant.0 c.requires.2 c.loop-p-test.true c.if-p-eq0.false
-      c.if-n-p.false
-      c.if-p-eq0-2.false,
-)
 
 pub loop-p-smaller : goal.loop-p-smaller
 loop-p-smaller c =

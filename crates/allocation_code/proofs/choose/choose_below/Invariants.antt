@@ -1,9 +1,5 @@
 -- Invariants and measures of `allocation_code::choose::choose_below`.
-use mathlib.Core.Path.{refl}
-use native.Mathlib.Omega.{arith}
-use borrow.Author.Rules.{rules}
-use Rattle.allocation.proofs.Choices.{ChoosingBelow, choosing_starts, choice_at_end, choice_above, choice_over, meetable_here, below_on, below_left}
-use Rattle.allocation.proofs.Choices.{choice_end_refused, choice_done}
+use Rattle.allocation.proofs.Choices.{ChoosingBelow}
 use Rattle.allocation_code.proofs.choose.choose_below.Given as goal
 
 -- `allocation_code::choose::choose_below` meets its contract. Assumes nothing.

@@ -1,12 +1,9 @@
 -- Invariants and measures of `allocation_code::choose::choose_unrefused`.
-use native.Mathlib.Omega.{arith}
 use Rattle.words.specs.Word.{word}
 use Rattle.layout.specs.Content.{contents_of}
 use Rattle.table.specs.Takeable.{may_take_after}
-use Rattle.allocation.specs.Allocation.{allocation_chosen}
 use Rattle.allocation.specs.inner.Choice.{KnownTop}
-use Rattle.allocation.proofs.Takes.{choice_fine}
-use Rattle.allocation.proofs.Choices.{Choosing, choosing_starts, meetable, choosing_on, choice_ends, met_left}
+use Rattle.allocation.proofs.Choices.{Choosing}
 use Rattle.allocation_code.proofs.choose.choose_unrefused.Given as goal
 
 -- `allocation_code::choose::choose_unrefused` meets its contract. Assumes nothing.

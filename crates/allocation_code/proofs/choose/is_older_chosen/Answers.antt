@@ -1,37 +1,28 @@
 -- Answers of `allocation_code::choose::is_older_chosen`.
-use mathlib.Core.Path.{refl, sym, ◌∙◌}
+use mathlib.Core.Path.{◌≡◌, ◌∙◌}
+use mathlib.Core.Bool.{true, false}
 use native.Mathlib.Omega.{arith}
+use lib.ListN.{take}
 use borrow.Author.Rules.{rules}
+use Rattle.std.proofs.lemmas.Iterator.{cases_from_any, YieldsList-from_slice}
+use Rattle.std.proofs.lemmas.Iterator.Adapters.{serves_from_places}
 use Rattle.layout.specs.Content.{contents_of}
 use Rattle.layout.specs.Record.{key_with}
 use Rattle.allocation.specs.inner.Takeable.{older_than}
-use Rattle.allocation.proofs.Tested.{Looking, looking_hit, looking_on, looking_ends}
+use Rattle.layout.specs.inner.Inside.{SlotInside}
+use Rattle.allocation.proofs.Tested.{any_by_cases, any_chosen, chosen_room}
 use Rattle.allocation_code.proofs.choose.is_older_chosen.Goals as goal
 
-pub loop-j-init : goal.loop-j-init
-loop-j-init c =
-    record { position = omega arith; rest = refl }
-
-pub offset_bounds-slots-j : goal.offset_bounds-slots-j
-offset_bounds-slots-j c =
-    omega (arith, c.loop-j.invariant.position, c.requires.1.few)
-
-pub bounds-slots-j : goal.bounds-slots-j
-bounds-slots-j c =
-    omega (arith, c.loop-j.invariant.position, c.requires.1.few, c.loop-j-test.true)
-
-pub is_older-requires : goal.is_older-requires
-is_older-requires c =
-    record { layout = c.requires.0; room = c.requires.1.inside _ (omega (arith, c.loop-j.invariant.position, c.loop-j-test.true)) }
-
-pub returns-then-is_older : goal.returns-then-is_older
-returns-then-is_older c =
-    looking_hit _ _ _ _ c.loop-j.invariant c.loop-j-test.true (sym c.is_older.ensures.result ∙ c.if-is_older.true)
-
-pub loop-j-preserved : goal.loop-j-preserved
-loop-j-preserved c =
-    looking_on _ _ _ _ c.loop-j.invariant c.loop-j-test.true (sym c.is_older.ensures.result ∙ c.if-is_older.false)
+pub any-requires-clause-callable : goal.any-requires-clause-callable
+any-requires-clause-callable c =
+    serves_from_places (YieldsList-from_slice (take c.args.got c.args.slots) cc) (λ s q k. search rules)
+    (λ s k h e. let inside : SlotInside c.args.image.now c.args.l s.now = record { layout = c.requires.0; room = chosen_room _ _ _ c.requires.1 k s.now h e } in
+    search (rules, inside))
 
 pub returns : goal.returns
 returns c =
-    looking_ends _ _ _ _ c.loop-j.invariant c.loop-j-test.false
+    let p = older_than (contents_of c.args.l c.args.image.now) (key_with c.args.low c.args.high) c.args.version in
+    any_by_cases p (take c.args.got c.args.slots) _
+    (cases_from_any _ _ _ (λ s. p s ≡ true) (λ s. p s ≡ false) c.any.ensures.ran (YieldsList-from_slice (take c.args.got c.args.slots) cc)
+    (λ s q k. search rules) (λ s q k. search rules))
+    ∙ any_chosen p c.args.slots c.args.got (omega (arith, c.requires.1.few))

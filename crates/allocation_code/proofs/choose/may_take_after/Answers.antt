@@ -1,16 +1,10 @@
 -- Answers of `allocation_code::choose::may_take_after`.
-use borrow.Author.Rules.{rules}
 use Rattle.allocation.proofs.Tested.{after_sure, after_high, after_looked}
 use Rattle.allocation_code.proofs.choose.may_take_after.Goals as goal
 
--- `allocation_code::choose::may_take_after` meets its contract. Assumes nothing.
 pub returns-then-may_take : goal.returns-then-may_take
 returns-then-may_take c =
     after_sure _ _ _ _ _ _ _ c.may_take.ensures.result c.if-may_take.true
-
-pub valid_version-version-requires : goal.valid_version-version-requires
-valid_version-version-requires c =
-    c.requires.0.room
 
 pub returns-then-top-version : goal.returns-then-top-version
 returns-then-top-version c =

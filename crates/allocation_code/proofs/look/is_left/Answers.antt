@@ -1,17 +1,9 @@
 -- Answers of `allocation_code::look::is_left`.
-use mathlib.Core.Path.{sym, ◌∙◌}
-use mathlib.Core.Bool.{true≢false}
-use borrow.Author.Rules.{rules}
 use Rattle.words.specs.Word.{word}
 use Rattle.words.proofs.Laws.{word_range}
 use Rattle.allocation.proofs.Looks.{unmarked, not_above}
 use Rattle.allocation_code.proofs.look.is_left.Goals as goal
 
-pub returns-then-is_version_above : goal.returns-then-is_version_above
-returns-then-is_version_above c =
-    λ e. absurd (true≢false e)
-
--- `allocation_code::look::is_left` meets its contract. Assumes nothing.
 pub returns-then-marks-slot_low-eq0 : goal.returns-then-marks-slot_low-eq0
 returns-then-marks-slot_low-eq0 c =
     λ e.
@@ -21,13 +13,5 @@ returns-then-marks-slot_low-eq0 c =
           (λ i. word_range _ i (λ j. (c.shared_slice_known-1.given j).fits)) _ _ _ _ _ c.requires.2
           c.slot_low.ensures.result
           c.if-marks-slot_low-eq0.true;
-      none_above = not_above _ _ _ _ c.is_version_above.ensures c.if-is_version_above.false;
-    }
-
-pub returns : goal.returns
-returns c =
-    λ e. record {
-      none_older = sym c.is_older_left_in.ensures
-          ∙ e;
       none_above = not_above _ _ _ _ c.is_version_above.ensures c.if-is_version_above.false;
     }

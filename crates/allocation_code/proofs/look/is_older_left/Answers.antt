@@ -1,5 +1,4 @@
 -- Answers of `allocation_code::look::is_older_left`.
-use borrow.Author.Rules.{rules}
 use Rattle.words.specs.Word.{word}
 use Rattle.allocation.proofs.Looks.{left_other, left_remove}
 use Rattle.allocation_code.proofs.look.is_older_left.Goals as goal
@@ -8,10 +7,6 @@ use Rattle.allocation_code.proofs.look.is_older_left.Goals as goal
 pub returns-then-slot_kind-ne2 : goal.returns-then-slot_kind-ne2
 returns-then-slot_kind-ne2 c =
     left_other _ (word c.args.image.now) _ _ _ c.slot_kind.ensures.result c.if-slot_kind-ne2.true
-
-pub valid_version-version-requires : goal.valid_version-version-requires
-valid_version-version-requires c =
-    c.requires.0.room
 
 pub returns : goal.returns
 returns c =

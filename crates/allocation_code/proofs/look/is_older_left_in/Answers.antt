@@ -1,38 +1,28 @@
 -- Answers of `allocation_code::look::is_older_left_in`.
-use mathlib.Core.Path.{refl, sym, ◌∙◌}
+use mathlib.Core.Path.{◌≡◌, ◌∙◌}
+use mathlib.Core.Bool.{Bool, true, false}
+use Prim.Native.Nat.{ℕ}
 use native.Mathlib.Omega.{arith}
+use lib.ListN.{take}
 use borrow.Author.Rules.{rules}
+use Rattle.std.proofs.lemmas.Iterator.{cases_from_any, YieldsList-from_slice}
+use Rattle.std.proofs.lemmas.Iterator.Adapters.{serves_from_places}
 use Rattle.layout.specs.Content.{contents_of}
 use Rattle.allocation.specs.inner.Takeable.{older_left}
-use Rattle.allocation.proofs.Tested.{Looking, looking_hit, looking_on, looking_ends}
+use Rattle.layout.specs.inner.Inside.{SlotInside}
+use Rattle.allocation.proofs.Tested.{any_by_cases, any_chosen, chosen_room}
 use Rattle.allocation_code.proofs.look.is_older_left_in.Goals as goal
 
-pub loop-j-init : goal.loop-j-init
-loop-j-init c =
-    record { position = omega arith; rest = refl }
-
-pub offset_bounds-slots-j : goal.offset_bounds-slots-j
-offset_bounds-slots-j c =
-    omega (arith, c.loop-j.invariant.position, c.requires.1.few)
-
-pub bounds-slots-j : goal.bounds-slots-j
-bounds-slots-j c =
-    omega (arith, c.loop-j.invariant.position, c.requires.1.few, c.loop-j-test.true)
-
-pub is_older_left-requires : goal.is_older_left-requires
-is_older_left-requires c = (
-  record { layout = c.requires.0.layout; room = c.requires.1.inside _ (omega (arith, c.loop-j.invariant.position, c.loop-j-test.true)) },
-  c.requires.0,
-)
-
-pub returns-then-is_older_left : goal.returns-then-is_older_left
-returns-then-is_older_left c =
-    looking_hit _ _ _ _ c.loop-j.invariant c.loop-j-test.true (sym c.is_older_left.ensures ∙ c.if-is_older_left.true)
-
-pub loop-j-preserved : goal.loop-j-preserved
-loop-j-preserved c =
-    looking_on _ _ _ _ c.loop-j.invariant c.loop-j-test.true (sym c.is_older_left.ensures ∙ c.if-is_older_left.false)
+pub any-requires-clause-callable : goal.any-requires-clause-callable
+any-requires-clause-callable c =
+    serves_from_places (YieldsList-from_slice (take c.args.got c.args.slots) cc) (λ s q k. search rules)
+    (λ s k h e. let inside : SlotInside c.args.image.now c.args.l s.now = record { layout = c.requires.0.layout; room = chosen_room _ _ _ c.requires.1 k s.now h e } in
+    search (rules, inside))
 
 pub returns : goal.returns
 returns c =
-    looking_ends _ _ _ _ c.loop-j.invariant c.loop-j-test.false
+    let p : ℕ → Bool = λ s. older_left (contents_of c.args.l c.args.image.now) s c.args.t in
+    any_by_cases p (take c.args.got c.args.slots) _
+    (cases_from_any _ _ _ (λ s. p s ≡ true) (λ s. p s ≡ false) c.any.ensures.ran (YieldsList-from_slice (take c.args.got c.args.slots) cc)
+    (λ s q k. search rules) (λ s q k. search rules))
+    ∙ any_chosen p c.args.slots c.args.got (omega (arith, c.requires.1.few))

@@ -1,29 +1,21 @@
 -- Answers of `allocation_code::slot::has_older`.
-use Prim.Native.Nat.{◌-◌}
+use mathlib.Core.Path.{refl, ◌≡◌, ◌∙◌}
+use mathlib.Core.Bool.{true, false}
+use Prim.Native.Nat.{◌+◌}
 use native.Mathlib.Omega.{arith}
 use borrow.Author.Rules.{rules}
-use Rattle.prelude.proofs.Any.{Going, any_start, any_hit, any_next, any_end}
+use Rattle.std.specs.List.{range_with_len}
+use Rattle.std.proofs.lemmas.Iterator.{cases_from_any, YieldsList-from_range}
 use Rattle.layout.specs.Content.{contents_of}
 use Rattle.layout.specs.Record.{key_with}
 use Rattle.allocation.specs.inner.Takeable.{older_than}
+use Rattle.allocation.proofs.Tested.{any_by_cases, any_in_range}
 use Rattle.allocation_code.proofs.slot.has_older.Goals as goal
-
-pub loop-t-init : goal.loop-t-init
-loop-t-init c =
-    any_start (omega arith)
-
-pub is_older-requires : goal.is_older-requires
-is_older-requires c =
-    record { layout = c.requires.0; room = omega (arith, c.requires.1, c.loop-t-test.true) }
-
-pub returns-then-is_older : goal.returns-then-is_older
-returns-then-is_older c =
-    any_hit c.loop-t.invariant c.loop-t-test.true c.is_older.ensures.result c.if-is_older.true
-
-pub loop-t-preserved : goal.loop-t-preserved
-loop-t-preserved c =
-    any_next c.loop-t.invariant c.loop-t-test.true c.is_older.ensures.result c.if-is_older.false
 
 pub returns : goal.returns
 returns c =
-    any_end c.loop-t.invariant c.loop-t-test.false
+    let p = older_than (contents_of c.args.l c.args.image.now) (key_with c.args.low c.args.high) c.args.version in
+    any_by_cases p (range_with_len 1 c.args.n) _
+    (cases_from_any _ _ _ (λ t. p t ≡ true) (λ t. p t ≡ false) c.any.ensures.ran (YieldsList-from_range 1 (c.args.n + 1) c.args.n refl (omega arith))
+    (λ t q k. search rules) (λ t q k. search rules))
+    ∙ any_in_range p 1 c.args.n

@@ -1,5 +1,4 @@
 -- Answers of `allocation_code::take::fault_by_all`.
-use borrow.Author.Rules.{rules}
 use Rattle.allocation.proofs.Takes.{taken_by_all}
 use Rattle.allocation.proofs.Looks.{few_by_choice}
 use Rattle.allocation_code.proofs.take.fault_by_all.Goals as goal

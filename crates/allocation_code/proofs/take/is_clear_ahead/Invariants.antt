@@ -1,18 +1,8 @@
--- Invariants and measures of `allocation_code::take::is_clear_ahead`.
-use mathlib.Core.Path.{refl, sym, ◌∙◌}
-use mathlib.Core.Bool.{true≢false}
-use native.Mathlib.Omega.{arith}
-use borrow.Author.Rules.{rules}
-use borrow.Author.Tests.{eqb-true}
+-- Invariants of `allocation_code::take::is_clear_ahead`.
 use Rattle.words.specs.Word.{word}
 use Rattle.allocation.specs.inner.Takeable.{low_put}
-use Rattle.allocation.proofs.Walks.{Walking, last_here, took_one, on}
-use Rattle.allocation.proofs.Takes.{taken_ahead, taken_low}
+use Rattle.allocation.proofs.Walks.{Walking}
 use Rattle.allocation_code.proofs.take.is_clear_ahead.Given as goal
 
--- `allocation_code::take::is_clear_ahead` meets its contract. Assumes nothing.
 abbrev pub invariant-loop-left : goal.invariant-loop-left
 invariant-loop-left l = Walking (low_put l.l (word l.image) l.known) l.next l.n l.n l.wanted l.first l.at l.left l.need
-
-abbrev pub decreases-loop-left : goal.decreases-loop-left
-decreases-loop-left l = l.left

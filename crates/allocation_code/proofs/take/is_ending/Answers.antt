@@ -1,10 +1,6 @@
 -- Answers of `allocation_code::take::is_ending`.
-use mathlib.Core.Path.{sym}
-use mathlib.Core.Bool.{true≢false}
-use native.Mathlib.Omega.{arith}
-use borrow.Author.Rules.{rules}
 use borrow.Author.Tests.{eqb-true}
-use Rattle.allocation.proofs.Looks.{Ending, ending_starts, ending_here, ending_on}
+use Rattle.allocation.proofs.Looks.{ending_starts, ending_here, ending_on}
 use Rattle.allocation_code.proofs.take.is_ending.Goals as goal
 
 pub loop-left-init : goal.loop-left-init
@@ -14,22 +10,6 @@ loop-left-init c =
 pub returns-then-at-eq0 : goal.returns-then-at-eq0
 returns-then-at-eq0 c =
     λ e. ending_here _ _ _ _ _ _ c.loop-left.invariant c.if-at-eq0.true
-
-pub overflow_cast-slot : goal.overflow_cast-slot
-overflow_cast-slot c =
-    omega (arith, c.loop-left.invariant.place)
-
-pub returns-then-n-slot : goal.returns-then-n-slot
-returns-then-n-slot c =
-    λ e. absurd (true≢false (sym e))
-
-pub offset_bounds-next-slot : goal.offset_bounds-next-slot
-offset_bounds-next-slot c =
-    omega (arith, c.loop-left.invariant.place)
-
-pub bounds-next-slot : goal.bounds-next-slot
-bounds-next-slot c =
-    omega (arith, c.requires, c.if-n-slot.false)
 
 pub loop-left-preserved : goal.loop-left-preserved
 loop-left-preserved c =

@@ -1,15 +1,8 @@
 -- Answers of `allocation_code::take::is_own_open`.
 use mathlib.Core.Path.{sym}
-use mathlib.Core.Bool.{true≢false}
-use native.Mathlib.Omega.{arith}
 use borrow.Author.Tests.{ltb-true}
 use Rattle.allocation.proofs.Own.{own_first}
 use Rattle.allocation_code.proofs.take.is_own_open.Goals as goal
-
--- `allocation_code::take::is_own_open` meets its contract. Assumes nothing.
-pub overflow_cast-next : goal.overflow_cast-next
-overflow_cast-next c =
-    omega (arith, (c.shared_slice_known-2-1.given c.args.first).fits)
 
 pub returns-then-next-t : goal.returns-then-next-t
 returns-then-next-t c =
@@ -19,7 +12,3 @@ returns-then-next-t c =
           (own_first _ _ _ _ _ _ _ c.named_version.ensures.result c.requires.0.some c.requires.1 c.requires.2 c.if-next-t.true _
           c.read_word.ensures.result (ltb-true _ _ e)));
     }
-
-pub returns : goal.returns
-returns c =
-    record { result = (λ e. absurd (true≢false (sym e))) }

@@ -1,5 +1,4 @@
 -- Answers of `allocation_code::take::named_version`.
-use borrow.Author.Rules.{rules}
 use Rattle.allocation.proofs.Own.{named_above, named_read}
 use Rattle.allocation_code.proofs.take.named_version.Goals as goal
 

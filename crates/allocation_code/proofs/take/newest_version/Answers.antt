@@ -1,5 +1,4 @@
 -- Answers of `allocation_code::take::newest_version`.
-use borrow.Author.Rules.{rules}
 use Rattle.allocation.proofs.Takes.{version_within}
 use Rattle.allocation_code.proofs.take.newest_version.Goals as goal
 

@@ -1,5 +1,4 @@
 -- Answers of `allocation_code::take::own_fault`.
-use borrow.Author.Rules.{rules}
 use Rattle.allocation.proofs.Own.{own_chosen}
 use Rattle.allocation_code.proofs.take.own_fault.Goals as goal
 

@@ -1,15 +1,13 @@
 -- Answers of `allocation_code::take::take_fault_by`.
-use borrow.Author.Rules.{rules}
 use Rattle.allocation.specs.Allocation.{allocation_by}
 use Rattle.allocation_code.proofs.take.take_fault_by.Goals as goal
 
--- `allocation_code::take::take_fault_by` meets its contract. Assumes nothing.
 pub returns-then-own : goal.returns-then-own
 unfolding allocation_by
 returns-then-own c =
     record { result = (rw c.if-own.true c.own_fault.ensures) }
 
-pub returns : goal.returns
+pub returns-else-own : goal.returns-else-own
 unfolding allocation_by
-returns c =
+returns-else-own c =
     record { result = (rw c.if-own.false c.take_fault.ensures) }

@@ -1,15 +1,6 @@
 -- Answers of `allocation_code::take::walk_fault`.
-use mathlib.Core.Path.{refl}
-use native.Mathlib.Omega.{arith}
-use borrow.Author.Rules.{rules}
-use Rattle.layout.specs.Content.{contents_of}
-use Rattle.allocation.specs.inner.Takeable.{takeable}
-use Rattle.allocation.proofs.Walks.{Walking, at-end, above, over, last_here, took_one, on}
+use Rattle.allocation.proofs.Walks.{at-end, above, over, last_here, took_one, on}
 use Rattle.allocation_code.proofs.take.walk_fault.Goals as goal
-
-pub loop-left-init : goal.loop-left-init
-loop-left-init c =
-    record { place = c.ranges.first.fits; some_need = c.requires.1; rest = refl }
 
 pub returns-then-at-eq0 : goal.returns-then-at-eq0
 returns-then-at-eq0 c =
@@ -19,22 +10,11 @@ pub returns-then-n-slot : goal.returns-then-n-slot
 returns-then-n-slot c =
     above _ _ _ _ _ _ _ _ _ c.loop-left.invariant c.if-n-slot.true
 
-pub may_take-requires : goal.may_take-requires
-may_take-requires c = (
-  record { layout = c.requires.0.layout; room = omega (arith, c.requires.0.image-size, c.if-n-slot.false) },
-  omega
-      (arith, c.requires.0.image-size),
-)
-
 pub returns-then-need-eq1 : goal.returns-then-need-eq1
 returns-then-need-eq1 c =
     last_here _ _ _ _ _ _ _ _ _ c.loop-left.invariant c.loop-left-test.true c.if-at-eq0.false
     c.if-n-slot.false _ c.may_take.ensures.result c.if-may_take.true c.if-need-eq1.true _
     c.end_fault.ensures.result
-
-pub overflow_sub-need : goal.overflow_sub-need
-overflow_sub-need c =
-    c.loop-left.invariant.some_need
 
 pub loop-left-preserved-then-may_take : goal.loop-left-preserved-then-may_take
 loop-left-preserved-then-may_take c =
