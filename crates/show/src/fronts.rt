@@ -1,32 +1,11 @@
 // Fronts of lists: how many first entries are lent.
 ghost use Rattle.show.specs.Fronts.{IsPrefixLen};
 
-// So many word numbers, or all.
-pub fn numbers_of(n: usize, list: &[u32]) -> usize
+// So many entries, or all.
+pub fn front_len<T>(n: usize, list: &[T]) -> usize
     ensures result { IsPrefixLen result list.now }
 {
-    if n < list.len() {
-        return n;
-    }
-    list.len()
+    n.min(list.len())
 }
 
-// So many values, or all.
-pub fn values_of(n: usize, list: &[u64]) -> usize
-    ensures result { IsPrefixLen result list.now }
-{
-    if n < list.len() {
-        return n;
-    }
-    list.len()
-}
-
-// So many bytes, or all.
-pub fn bytes_of(n: usize, list: &[u8]) -> usize
-    ensures result { IsPrefixLen result list.now }
-{
-    if n < list.len() {
-        return n;
-    }
-    list.len()
-}
+pub use crate::fronts::{front_len as bytes_of, front_len as numbers_of, front_len as values_of};

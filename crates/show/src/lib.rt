@@ -7,7 +7,9 @@ pub mod input;
 pub mod lines;
 pub mod progress;
 
+pub use crate::numbers as values;
 use orderset::{Formatted, Got, Invalidations, Outcome, Recovered, State};
+use std::fmt::Display;
 use std::io::Stdout;
 
 // Writes all of these bytes, or as many as can be: false where not all could.
@@ -15,117 +17,82 @@ pub fn written(stdout: Stdout, bytes: &[u8]) -> bool {
     stdout.write_all(bytes).is_ok()
 }
 
+// Bytes that need not be text.
 pub fn text(stdout: Stdout, label: &[u8]) {
-    written(stdout, label);
+    let _ = stdout.write_all(label);
 }
 
 pub fn number(stdout: Stdout, n: u64) {
-    text(stdout, b" ");
-    let _ = stdout.print(n);
+    let _ = print!(stdout; " {n}");
 }
 
-fn wide(n: u32) -> u64 {
-    n as u64
-}
-
-pub fn numbers(stdout: Stdout, list: &[u32]) {
-    let mut i = 0;
-    while i < list.len() {
-        number(stdout, wide(list[i]));
-        i += 1;
+pub fn numbers<T: Display>(stdout: Stdout, list: &[T]) {
+    for n in list {
+        let _ = print!(stdout; " {n}");
     }
 }
 
-pub fn values(stdout: Stdout, list: &[u64]) {
-    let mut i = 0;
-    while i < list.len() {
-        number(stdout, list[i]);
-        i += 1;
-    }
-}
-
-pub fn refused(stdout: Stdout, k: u32) {
-    text(stdout, b" no");
-    number(stdout, k as u64);
+pub fn refused(stdout: Stdout, number: u32) {
+    let _ = print!(stdout; " no {number}");
 }
 
 // Format's answer.
-pub fn formatted(stdout: Stdout, r: Formatted) {
-    match r {
-        Formatted::Slots(n) => {
-            text(stdout, b" ok");
-            number(stdout, n as u64);
+pub fn formatted(stdout: Stdout, answer: Formatted) {
+    match answer {
+        Formatted::Slots(slots) => {
+            let _ = print!(stdout; " ok {slots}");
         }
-        Formatted::Refused(k) => refused(stdout, k),
+        Formatted::Refused(number) => refused(stdout, number),
     }
 }
 
 pub fn state(stdout: Stdout, s: State) {
-    text(stdout, b" state");
-    number(stdout, s.first as u64);
-    number(stdout, s.last as u64);
-    number(stdout, s.live as u64);
-    number(stdout, s.version);
+    let State {
+        first,
+        last,
+        live,
+        version,
+        ..
+    } = s;
+    let _ = print!(stdout; " state {first} {last} {live} {version}");
 }
 
 // Recovery's answer.
-pub fn recovered(stdout: Stdout, r: Recovered) {
-    match r {
-        Recovered::Rebuilt(s) => state(stdout, s),
-        Recovered::Refused { number, slot: _ } => refused(stdout, number),
+pub fn recovered(stdout: Stdout, answer: Recovered) {
+    match answer {
+        Recovered::Rebuilt(rebuilt) => state(stdout, rebuilt),
+        Recovered::Refused { number, .. } => refused(stdout, number),
     }
 }
 
 // The state that recovery leaves, or the one given.
-pub fn state_after(r: Recovered, s: State) -> State {
-    match r {
+pub fn state_after(answer: Recovered, given: State) -> State {
+    match answer {
         Recovered::Rebuilt(rebuilt) => rebuilt,
-        Recovered::Refused { number: _, slot: _ } => s,
-    }
-}
-
-// Store i, if it is one of the first so many.
-fn store(stdout: Stdout, at: &[u32], value: &[u64], count: u32, i: usize) {
-    if count as usize <= i {
-        return;
-    }
-    if i < at.len() {
-        number(stdout, wide(at[i]));
-    }
-    if i < value.len() {
-        number(stdout, value[i]);
-    }
-}
-
-fn first_stores(stdout: Stdout, at: &[u32], value: &[u64], count: u32) {
-    let mut i = 0;
-    while i < at.len() {
-        store(stdout, at, value, count, i);
-        i += 1;
+        Recovered::Refused { .. } => given,
     }
 }
 
 // Recovery's invalidating stores, each a word number and a value; nothing where there are none.
 pub fn invalidations(stdout: Stdout, stores: Invalidations) {
-    if stores.count == 0 {
+    let Invalidations { count, at, value } = stores;
+    if count == 0 {
         return;
     }
     text(stdout, b" opens");
-    let at = stores.at;
-    let value = stores.value;
-    first_stores(stdout, &at, &value, stores.count);
+    for (word, value) in at.iter().zip(&value).take(count as usize) {
+        let _ = print!(stdout; " {word} {value}");
+    }
 }
 
 // The answer of an insert, a replace or a remove.
-pub fn outcome(stdout: Stdout, r: Outcome) {
-    match r {
+pub fn outcome(stdout: Stdout, answer: Outcome) {
+    match answer {
         Outcome::Stored { slot, version } => {
-            text(stdout, b" ok");
-            number(stdout, slot as u64);
-            number(stdout, version);
+            let _ = print!(stdout; " ok {slot} {version}");
         }
         Outcome::Absent => text(stdout, b" absent"),
-        Outcome::Refused(k) => refused(stdout, k),
+        Outcome::Refused(number) => refused(stdout, number),
     }
 }
 
@@ -139,13 +106,12 @@ pub fn index(stdout: Stdout, heads: &[u32], next: &[u32]) {
 }
 
 // The answer of a get.
-pub fn got(stdout: Stdout, r: Got) {
-    match r {
-        Got::Length(n) => {
-            text(stdout, b" length");
-            number(stdout, n as u64);
+pub fn got(stdout: Stdout, answer: Got) {
+    match answer {
+        Got::Length(length) => {
+            let _ = print!(stdout; " length {length}");
         }
         Got::Absent => text(stdout, b" absent"),
-        Got::Refused(k) => refused(stdout, k),
+        Got::Refused(number) => refused(stdout, number),
     }
 }

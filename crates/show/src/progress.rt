@@ -3,10 +3,7 @@ use std::time::Clock;
 
 // The time in seconds.
 pub fn seconds(clock: &impl Clock) -> u64 {
-    match clock.since_1970() {
-        Ok(t) => t.as_secs(),
-        Err(_) => 0,
-    }
+    clock.since_1970().map_or(0, |t| t.as_secs())
 }
 
 // A count, and what is counted.

@@ -1,9 +1,0 @@
--- The loop of `show::lines::parse_numbers`.
-use Rattle.std.proofs.Common.{◌-◌, ◌≤◌, length}
-use Rattle.show.proofs.lines.parse_numbers.Given as goal
-
-abbrev pub invariant-loop-i : goal.invariant-loop-i
-invariant-loop-i l = l.i ≤ length l.line
-
-abbrev pub decreases-loop-i : goal.decreases-loop-i
-decreases-loop-i l = length l.line - l.i
