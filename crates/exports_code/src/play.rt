@@ -2,8 +2,7 @@
 ghost use Rattle.std.specs.Prelude.{◌≡◌};
 ghost use Rattle.interface.specs.Set.{play_end, play_result};
 
-use crate::refusal::return_code;
-use orderset::{Stores, play};
+use orderset::{Stores, play, return_code};
 
 // The first a stores of the first half and the first b of the second are made.
 pub fn play_lent(image: &mut [u8], at: &[u32; 16], value: &[u64; 16], a: usize, b: usize) -> u32

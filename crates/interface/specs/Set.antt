@@ -16,7 +16,7 @@ pub use Rattle.prelude.specs.Keys.{Holds, holds, Keys}
 pub use Rattle.stores.specs.Store.{Store, played, standing, all_stand}
 unfoldable pub use Rattle.stores.specs.Store.{zipped}
 pub use Rattle.refusals.specs.declared.Refusal.{Refusal}
-pub use Rattle.refusals.specs.Number.{number_of, fault_in}
+pub use Rattle.refusals.specs.Number.{code_of, fault_in}
 pub use Rattle.stores.specs.Play.{Played, play_end}
 pub use Rattle.stores.specs.Play.{play_result, play_list_result}
 unfoldable pub use Rattle.stores.specs.Play.{word_numbers, values, playing, half_counts}

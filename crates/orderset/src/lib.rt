@@ -30,7 +30,7 @@ pub use cut_counts_code::{count_cuts, count_cuts2};
 pub use index::{Action, Mode, State};
 pub use recovery::{Invalidations, RecoverAnswer, Recovered};
 pub use recovery_call_code::{recover, recover2};
-pub use refusals::Refusal;
+pub use refusals::{Refusal, return_code};
 pub use slot_counts::{CountAnswer, SlotCounts};
 pub use slot_counts_code::{count_slots, count_slots2};
 pub use stores::{Store, Stores};

@@ -2,8 +2,8 @@
 ghost use Rattle.std.specs.Prelude.{◌≡◌};
 ghost use Rattle.linequery.specs.Query.{query_end, whole_query, version_query, first_query, last_query};
 
-use exports_code::refusal::return_code;
 use linequery_code::{first_query, last_query, version_query, whole_query};
+use orderset::return_code;
 
 // The answer is 1 for a whole line and 0 for an open one.
 #[unsafe(no_mangle)]

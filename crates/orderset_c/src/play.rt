@@ -3,8 +3,7 @@ ghost use Rattle.std.specs.Prelude.{◌≡◌};
 ghost use Rattle.interface.specs.Set.{play_end, play_result, play_list_result};
 
 use exports_code::play::play_lent;
-use exports_code::refusal::return_code;
-use orderset::play_list;
+use orderset::{play_list, return_code};
 
 // The first a stores of the first half and the first b of the second are made.
 #[unsafe(no_mangle)]

@@ -9,9 +9,10 @@ ghost use Rattle.recovery.specs.inner.Scan.{Scannable, valid_summary, Summed, is
 
 use index_read_code::head::head_of;
 use layout::Verdict;
-use layout_fields_code::fields::{record_fault, slot_high, slot_kind, slot_low};
+use layout_fields_code::fields::{check_record, slot_high, slot_kind, slot_low};
 use layout_line_code::slot::{mark_fault, slot_verdict};
 use recovery::{Classes, Scan, Summary};
+use refusals::return_code;
 use words_code::greater;
 
 // The chain of a record whose key has this low word, as a number: a put's is that of its key's head.
@@ -40,7 +41,7 @@ fn valid_summary(image: &[u8], l: usize, s: usize, b: usize, version: u64, mark:
         place,
         top: version,
         mark,
-        fault: record_fault(image, l, s),
+        fault: return_code(check_record(image, l, s)),
     }
 }
 

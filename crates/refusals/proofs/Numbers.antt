@@ -4,9 +4,9 @@ use Rattle.std.specs.Result.{IsErrAnd}
 use Rattle.std.proofs.Common.{arith, refl}
 use Rattle.refusals.specs.declared.Refusal.{Refusal}
 use Rattle.refusals.specs.declared.Refusal.TheVariants.{BadImageLength, NotFormatted, BadHeader, BadIndexLength, BadMark, BadKindBits, VersionShared, NoSpareSlot, Exhausted, ValueTooLong, IndexMismatch, BufferTooShort, CountTooHigh, BadStores, BadLine, NewKeyExists, NoOrder, BadQuantity, KeyExists, KeyMissing, BadKind, BadValueLength, BadTail, TooManyBroken, BadBasket, KeyTwice, Full, BadMessage, BadLogLength, NoMessage, BadLayout, BadLineLength}
-use Rattle.refusals.specs.Number.{number_of, fault_in}
+use Rattle.refusals.specs.Number.{code_of, fault_in}
 
-pub number_above : (r : Refusal) → 0 < number_of r
+pub number_above : (r : Refusal) → 0 < code_of r
 number_above BadImageLength = omega arith
 number_above NotFormatted = omega arith
 number_above BadHeader = omega arith
@@ -40,10 +40,10 @@ number_above NoMessage = omega arith
 number_above BadLayout = omega arith
 number_above BadLineLength = omega arith
 
-pub not_zero : (r : Refusal) → number_of r ≡ 0 → ⊥
+pub not_zero : (r : Refusal) → code_of r ≡ 0 → ⊥
 not_zero r z = let above = number_above r in omega arith
 
 -- what a function answers that hands on the refusal e by `?`
-pub handed_on : {A : Type 0} (e : Refusal) (r : Result A Refusal) → IsErrAnd r (λ y. y ≡ e) → fault_in r ≡ number_of e
+pub handed_on : {A : Type 0} (e : Refusal) (r : Result A Refusal) → IsErrAnd r (λ y. y ≡ e) → fault_in r ≡ code_of e
 handed_on e (Ok value) h = absurd h
 handed_on e (Err refusal) h = rw h refl

@@ -3,7 +3,7 @@
 #![tactic(auto)]
 
 ghost use Rattle.std.specs.Prelude.{◌≡◌};
-ghost use Rattle.refusals.specs.Number.{number_of};
+ghost use Rattle.refusals.specs.Number.{code_of, fault_in};
 
 // Each refusal has the number that C callers get. Numbers 12 and from 34 on are not used.
 #[derive(Clone, Copy, Debug, PartialEq, Eq)]
@@ -44,9 +44,19 @@ pub enum Refusal {
 
 impl Refusal {
     // The number that C callers get.
-    pub fn number(self) -> u32
-        ensures result { result ≡ number_of self }
+    pub fn code(self) -> u32
+        ensures result { result ≡ code_of self }
     {
         self as u32
+    }
+}
+
+// The number of the refusal, 0 for a call that is done.
+pub fn return_code(done: Result<(), Refusal>) -> u32
+    ensures result { result ≡ fault_in done }
+{
+    match done {
+        Ok(()) => 0,
+        Err(refusal) => refusal.code(),
     }
 }
