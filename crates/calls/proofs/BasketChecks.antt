@@ -7,7 +7,9 @@ use Prim.Native.Nat.{ℕ, zero, suc, ◌+◌, ◌-◌, ◌^◌, ◌≤◌, ◌<�
 use native.Mathlib.Decide.{dec_lt}
 use native.Mathlib.Omega.{arith}
 use lib.Dec.{eqb}
-use lib.ListN.{length, get_or, set, replicate, length-set}
+use lib.ListN.{length, get_or, set, take, replicate, length-set}
+use Rattle.std.specs.List.{list_any, range_with_len}
+use Rattle.std.proofs.lemmas.List.{get_or-take, get_or_default, length-take}
 use lib.Seq.{get_or-set_same, get_or-set_other}
 use borrow.Author.Tests.{eq-eqb, ne_eqb, eqb-true, eqb-false, ltb-false, lt-ltb, le-ltb}
 use Rattle.prelude.specs.Refusal.{refuse_if, or_else}
@@ -15,6 +17,7 @@ use Rattle.prelude.proofs.Choice.{pick_true, pick_false}
 use Rattle.prelude.proofs.Refusals.{refuse_if-true, refuse_if-false, refuse_if_zero, or_else_first, or_else_later, or_else_zero}
 use Rattle.prelude.proofs.Tabulate.{tabulate-length}
 use Rattle.layout.specs.Record.{key_with, limit}
+use Rattle.allocation.proofs.Tested.{either_is}
 use Rattle.layout.proofs.KeyWords.{same_words}
 use Rattle.index.specs.Walk.{chain_fault}
 use Rattle.index.specs.Change.{is_found, inserts_of, key_fault}
@@ -58,6 +61,14 @@ module _ (l : ℕ) (items : List BasketItem) (values : List ℕ) where
   pub so_many : (count : ℕ) → length (changes_of l count items values) ≡ count
   unfolding changes_of
   so_many count = changes_length 0 count
+
+-- an item that a loop over the first of them gives
+pub item_taken : (items : List BasketItem) (count k : ℕ) (d : BasketItem) → k < length (take count items) → get_or (take count items) k d ≡ item_at items k
+unfolding item_at
+item_taken items count k d h =
+    let few : k < count = omega (arith, length-take count items) in
+    let room : k < length items = omega (arith, length-take count items) in
+    get_or-take count items k d few ∙ get_or_default items k d _ room
 
 -- an item's key, by its words
 pub key-at : (l : ℕ) (items : List BasketItem) (i high : ℕ) → high ≡ high_in l (item_at items i).high
@@ -161,29 +172,15 @@ module _ (l : ℕ) (item : BasketItem) (low high : ℕ) (fits : item.low < 2 ^ 6
           sym (ne_eqb _ _ (λ q. eqb-false h high t (f ∙ (same_words item.low (high_in l item.high) low high fits small q).1)))
 
 -- is_among
-pub record Seeking (l : ℕ) (items : List BasketItem) (count key from j : ℕ) : Type 0 where
-  pub rest : (values : List ℕ) → among key (changes_from l items values j (count - j)) ≡ among key (changes_from l items values from (count - from))
-
-module _ (l : ℕ) (items : List BasketItem) (count key from j : ℕ) (w : Seeking l items count key from j) where
-  module _ (h : j < count) (b : Bool) (e : b ≡ eqb (item_key_at l items j) key) where
-    look : (values : List ℕ) → among key (changes_from l items values j (count - j))
-        ≡ cond (eqb (item_key_at l items j) key) true (among key (changes_from l items values (j + 1) (count - (j + 1))))
-    unfolding among change_at
-    look values = ap (among key) (changes_step l items values count j h)
-
-    pub seek_hit : b ≡ true → (values : List ℕ) → true ≡ among key (changes_from l items values from (count - from))
-    seek_hit q values = sym (pick_true (eqb (item_key_at l items j) key) _ _ (sym e ∙ q)) ∙ sym (look values) ∙ w.rest values
-
-    pub seek_on : b ≡ false → Seeking l items count key from (j + 1)
-    seek_on q =
-        record { rest = λ values. sym (pick_false (eqb (item_key_at l items j) key) _ _ (sym e ∙ q)) ∙ sym (look values) ∙ w.rest values }
-
-  pub seek_end : count ≤ j → (values : List ℕ) → false ≡ among key (changes_from l items values from (count - from))
-  unfolding among
-  seek_end h values = sym (ap (among key) (changes_end l items values count j h)) ∙ w.rest values
-
-pub seek_starts : (l : ℕ) (items : List BasketItem) (count key from : ℕ) → Seeking l items count key from from
-seek_starts l items count key from = record { rest = λ values. refl }
+pub among_listed : (l : ℕ) (items : List BasketItem) (values : List ℕ) (key from n : ℕ)
+    → list_any (λ (j : ℕ). eqb (item_key_at l items j) key) (range_with_len from n) ≡ among key (changes_from l items values from n)
+unfolding among changes_from change_at
+among_listed l items values key from zero = refl
+among_listed l items values key from (suc n) =
+    let next : from + 1 ≡ suc from = omega arith in
+    either_is (eqb (item_key_at l items from) key) _
+    ∙ ap (λ (b : Bool). cond (eqb (item_key_at l items from) key) true b)
+    (among_listed l items values key (from + 1) n ∙ ap (λ (k : ℕ). among key (changes_from l items values k n)) next)
 
 -- any_twice
 pub record Pairing (l : ℕ) (items : List BasketItem) (count i : ℕ) : Type 0 where

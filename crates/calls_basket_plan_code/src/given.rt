@@ -10,20 +10,14 @@ use calls::BasketItem;
 pub fn high_in(l: usize, high: u64) -> u64
     ensures result { result ≡ high_in l high }
 {
-    if l == 1 {
-        return 0;
-    }
-    high
+    if l == 1 { 0 } else { high }
 }
 
 // Has the item this key?
 fn item_has_key(l: usize, item: BasketItem, low: u64, high: u64) -> bool
     ensures { result ≡ eqb (item_key l item) (key_with low high) }
 {
-    if item.low != low {
-        return false;
-    }
-    high_in(l, item.high) == high
+    item.low == low && high_in(l, item.high) == high
 }
 
 // Has one of the items from number from on this key?
@@ -38,15 +32,7 @@ fn is_among(
     requires { count ≤ 8 }
     ensures { (values : List ℕ) → result ≡ among (key_with low high) (changes_from l items values from (count - from)) }
 {
-    let mut j = from;
-    while j < count {
-        let item = items[j];
-        if item_has_key(l, item, low, high) {
-            return true;
-        }
-        j += 1;
-    }
-    false
+    (from..count).any(|j| item_has_key(l, items[j], low, high))
 }
 
 // Does a key come twice?
@@ -54,12 +40,10 @@ fn any_twice(l: usize, items: [BasketItem; 8], count: usize) -> bool
     requires { count ≤ 8 }
     ensures { (values : List ℕ) → result ≡ any_twice (changes_of l count items values) }
 {
-    let mut i = 0;
-    while i < count {
+    for i in 0..count {
         let item = items[i];
         let high = high_in(l, item.high);
-        i += 1;
-        if is_among(l, items, i, count, item.low, high) {
+        if is_among(l, items, i + 1, count, item.low, high) {
             return true;
         }
     }

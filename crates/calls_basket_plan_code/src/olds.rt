@@ -18,16 +18,8 @@ fn old_in(found: Found) -> u32
     ensures { result ≡ old_in found }
 {
     match found {
-        Found::At {
-            slot,
-            prev: _,
-            compared: _,
-        } => slot,
-        Found::Missing {
-            prev: _,
-            compared: _,
-        } => 0,
-        Found::BadChain => 0,
+        Found::At { slot, .. } => slot,
+        Found::Missing { .. } | Found::BadChain => 0,
     }
 }
 
@@ -45,8 +37,7 @@ pub fn find_olds(
     ensures result { OldsOf (search l image.now heads.now next.now) l count items result }
 {
     let mut slots = [0; 8];
-    let mut i = 0;
-    while i < count {
+    for i in 0..count {
         let item = items[i];
         let high = high_in(l, item.high);
         let found = find_key(image, l, heads, next, n, item.low, high);
@@ -55,7 +46,6 @@ pub fn find_olds(
             return Olds { fault, slots };
         }
         slots[i] = old_in(found);
-        i += 1;
     }
     Olds { fault: 0, slots }
 }
@@ -81,15 +71,11 @@ pub fn actions_fault(items: [BasketItem; 8], count: usize, olds: [u32; 8]) -> u3
     requires { count ≤ 8 }
     ensures result { ActionsFault items count olds result }
 {
-    let mut i = 0;
-    while i < count {
-        let item = items[i];
-        let action = item.action;
-        let fault = action_fault(action, olds[i]);
+    for i in 0..count {
+        let fault = action_fault(items[i].action, olds[i]);
         if fault != 0 {
             return fault;
         }
-        i += 1;
     }
     0
 }

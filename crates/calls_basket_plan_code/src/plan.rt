@@ -10,6 +10,7 @@ use crate::olds::{actions_fault, find_olds};
 use crate::sizes::basket_lent_fault;
 use crate::slots::choose_slots;
 use crate::totals::totals_of;
+use allocation::Choice;
 use calls::{BasketItem, Plan};
 use index::State;
 use layout_code::header::slot_count;
@@ -51,7 +52,11 @@ fn plan_keys(
         return refused_plan(held);
     }
     let totals = totals_of(items, count);
-    let choice = choose_slots(
+    let Choice {
+        fault,
+        slots,
+        prevs,
+    } = choose_slots(
         image,
         l,
         next,
@@ -62,10 +67,8 @@ fn plan_keys(
         totals.removes,
         own,
     );
-    let slots = choice.slots;
-    let prevs = choice.prevs;
     Plan {
-        fault: choice.fault,
+        fault,
         olds,
         slots,
         prevs,

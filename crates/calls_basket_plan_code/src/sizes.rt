@@ -30,15 +30,11 @@ fn sizes_fault(l: usize, items: [BasketItem; 8], count: usize) -> u32
     requires { Layout l × (count ≤ 8) }
     ensures { (values : List ℕ) → result ≡ first_fault (λ c. value_fault l c.action (length c.value)) (changes_of l count items values) }
 {
-    let mut i = 0;
-    while i < count {
-        let item = items[i];
-        let action = item.action;
-        let fault = value_size_fault(l, action, item.length);
+    for item in &items[..count] {
+        let fault = value_size_fault(l, item.action, item.length);
         if fault != 0 {
             return fault;
         }
-        i += 1;
     }
     0
 }

@@ -32,15 +32,11 @@ pub fn totals_of(items: [BasketItem; 8], count: usize) -> Totals
     requires { count ≤ 8 }
     ensures result { (l : ℕ) → TotalsOf l count items result }
 {
-    let mut inserts: u32 = 0;
-    let mut removes: u32 = 0;
-    let mut i = 0;
-    while i < count {
-        let item = items[i];
-        let action = item.action;
-        inserts += inserts_by(action);
-        removes += removes_by(action);
-        i += 1;
+    let mut inserts = 0;
+    let mut removes = 0;
+    for item in &items[..count] {
+        inserts += inserts_by(item.action);
+        removes += removes_by(item.action);
     }
     Totals { inserts, removes }
 }

@@ -1,21 +1,10 @@
 // Format: a lent slice of bytes becomes an empty image.
-ghost use Rattle.std.specs.Prelude.{◌≡◌, length, replicate};
+ghost use Rattle.std.specs.Prelude.{◌≡◌};
 ghost use Rattle.calls.specs.Format.{format_fault, format_end, format_result};
 
 use calls::Formatted;
 use layout_code::header::slot_count;
 use words_code::write_word;
-
-// Every byte becomes zero.
-fn zero_bytes(image: &mut [u8])
-    ensures { image.new ≡ replicate (length image.old) 0 }
-{
-    let mut i = 0;
-    while i < image.len() {
-        image[i] = 0;
-        i += 1;
-    }
-}
 
 // 1 by the number of slots, or 32 by the layout, else 0.
 fn format_fault(l: u64, n: usize) -> u32
@@ -42,7 +31,7 @@ pub fn format(image: &mut [u8], l: u64) -> Formatted
     if fault != 0 {
         return Formatted::Refused(fault);
     }
-    zero_bytes(image);
+    image.fill(0);
     write_word(image, 0, n as u64);
     write_word(image, 1, l);
     Formatted::Slots(n as u32)

@@ -33,15 +33,8 @@ fn get_later_fault(image: &[u8], l: usize, size: usize, found: Found) -> u32
     ensures { result ≡ get_later_fault l image.now size found }
 {
     match found {
-        Found::At {
-            slot,
-            prev: _,
-            compared: _,
-        } => length_fault(l, slot_length(image, l, slot as usize), size),
-        Found::Missing {
-            prev: _,
-            compared: _,
-        } => 0,
+        Found::At { slot, .. } => length_fault(l, slot_length(image, l, slot as usize), size),
+        Found::Missing { .. } => 0,
         Found::BadChain => 11,
     }
 }
@@ -94,12 +87,12 @@ pub fn get_in(
             moved: 0,
         },
         Lookup::Accepted { place, compared } => match place {
-            Place::NotHeld { prev: _ } => GetAnswer {
+            Place::NotHeld { .. } => GetAnswer {
                 got: Got::Absent,
                 compared,
                 moved: 0,
             },
-            Place::Held { slot, prev: _ } => {
+            Place::Held { slot, .. } => {
                 let n = slot_length(image, l, slot as usize);
                 let moved = copy_value(image, l, slot as usize, out, n);
                 GetAnswer {

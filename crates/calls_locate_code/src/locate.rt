@@ -32,18 +32,14 @@ pub fn locate_in(
     }
     let found = find_key(image, l, heads, next, slot_count(image.len()), low, high);
     match found {
-        Found::At {
-            slot,
-            prev: _,
-            compared,
-        } => LocateAnswer {
+        Found::At { slot, compared, .. } => LocateAnswer {
             located: Located::At {
                 slot,
                 version: read_word(image, 16 * (slot as usize) + 7) / 2,
             },
             compared,
         },
-        Found::Missing { prev: _, compared } => LocateAnswer {
+        Found::Missing { compared, .. } => LocateAnswer {
             located: Located::Absent,
             compared,
         },

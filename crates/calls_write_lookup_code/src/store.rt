@@ -26,22 +26,14 @@ pub fn is_accepted(
     ensures result { result ≡ true
         → store_fault (allocation_by own l image.now next.now n state.first state.newest 1) n state inserts removes ≡ 0 }
 {
-    if ends_fault(n as u32, state.first, state.last) != 0 {
+    if ends_fault(n as u32, state.first, state.last) != 0
+        || state.live < removes
+        || live_fault(n as u32, state.live, inserts, removes) != 0
+        || version_fault(state.version) != 0
+    {
         return false;
     }
-    if state.live < removes {
-        return false;
-    }
-    if live_fault(n as u32, state.live, inserts, removes) != 0 {
-        return false;
-    }
-    if version_fault(state.version) != 0 {
-        return false;
-    }
-    if own {
-        return is_own_open(image, l, next, n, state.first, state.newest);
-    }
-    false
+    own && is_own_open(image, l, next, n, state.first, state.newest)
 }
 
 // 11 (reuse, or fewer live than are removed), 28 or 9 for a call that takes one slot, else 0. Several functions call it,

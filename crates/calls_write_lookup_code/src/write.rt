@@ -54,11 +54,7 @@ pub fn insert_lookup(
     let n = slot_count(image.len());
     let found = find_key(image, l, heads, next, n, low, high);
     match found {
-        Found::At {
-            slot: _,
-            prev: _,
-            compared,
-        } => Lookup::Refused {
+        Found::At { compared, .. } => Lookup::Refused {
             number: 20,
             compared,
         },
@@ -119,7 +115,7 @@ pub fn replace_lookup(
             let fault = store_fault(image, l, next, n, state, 0, 0, own);
             unless_refused(fault, Place::Held { slot, prev }, compared)
         }
-        Found::Missing { prev: _, compared } => Lookup::Refused {
+        Found::Missing { compared, .. } => Lookup::Refused {
             number: 21,
             compared,
         },

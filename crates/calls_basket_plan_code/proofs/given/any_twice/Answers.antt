@@ -10,18 +10,6 @@ pub loop-i-init : goal.loop-i-init
 loop-i-init c =
     pairs_start _ _ _
 
-pub offset_bounds-items-i : goal.offset_bounds-items-i
-offset_bounds-items-i c =
-    omega (arith, c.loop-i-test.true, c.requires)
-
-pub bounds-items-i : goal.bounds-items-i
-bounds-items-i c =
-    omega (arith, c.loop-i-test.true, c.requires)
-
-pub overflow_add-i : goal.overflow_add-i
-overflow_add-i c =
-    omega (arith, c.loop-i-test.true, c.requires)
-
 pub is_among-requires : goal.is_among-requires
 is_among-requires c =
     c.requires
@@ -31,10 +19,6 @@ unfolding item_at
 returns-then-is_among c =
     pair_hit _ _ _ _ c.loop-i.invariant c.loop-i-test.true _ c.high_in-high.ensures.result _ c.is_among.ensures
     c.if-is_among.true
-
-pub loop-i-smaller : goal.loop-i-smaller
-loop-i-smaller c =
-    omega (arith, c.loop-i-test.true)
 
 pub loop-i-preserved : goal.loop-i-preserved
 unfolding item_at

@@ -1,4 +1,4 @@
--- Invariants and measures of `calls_basket_plan_code::given::any_twice`.
+-- Invariants of `calls_basket_plan_code::given::any_twice`.
 use Prim.Native.Nat.{◌-◌}
 use native.Mathlib.Omega.{arith}
 use Rattle.calls.specs.BasketItems.{item_at}
@@ -9,6 +9,3 @@ use Rattle.calls_basket_plan_code.proofs.given.any_twice.Given as goal
 -- `calls_basket_plan_code::given::any_twice` meets its contract. Assumes nothing.
 abbrev pub invariant-loop-i : goal.invariant-loop-i
 invariant-loop-i l = Pairing l.l l.items l.count l.i
-
-abbrev pub decreases-loop-i : goal.decreases-loop-i
-decreases-loop-i l = l.count - l.i

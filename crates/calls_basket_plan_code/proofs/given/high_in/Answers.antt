@@ -8,7 +8,7 @@ unfolding high_in
 returns-then-l-eq1 c =
     record { result = (search tests) }
 
-pub returns : goal.returns
+pub returns-else-l-eq1 : goal.returns-else-l-eq1
 unfolding high_in
-returns c =
+returns-else-l-eq1 c =
     record { result = (search tests) }

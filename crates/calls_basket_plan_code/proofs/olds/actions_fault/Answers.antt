@@ -10,34 +10,10 @@ pub loop-i-init : goal.loop-i-init
 loop-i-init c =
     acting_starts _ _ _
 
-pub offset_bounds-items-i : goal.offset_bounds-items-i
-offset_bounds-items-i c =
-    omega (arith, c.loop-i-test.true, c.requires)
-
-pub bounds-items-i : goal.bounds-items-i
-bounds-items-i c =
-    omega (arith, c.loop-i-test.true, c.requires)
-
-pub offset_bounds-olds-i : goal.offset_bounds-olds-i
-offset_bounds-olds-i c =
-    omega (arith, c.loop-i-test.true, c.requires)
-
-pub bounds-olds-i : goal.bounds-olds-i
-bounds-olds-i c =
-    omega (arith, c.loop-i-test.true, c.requires)
-
 pub returns-then-fault-ne0 : goal.returns-then-fault-ne0
 unfolding item_at
 returns-then-fault-ne0 c =
     record { result = (acting_stops _ _ _ _ c.loop-i.invariant c.loop-i-test.true _ c.action_fault-fault.ensures c.if-fault-ne0.true) }
-
-pub overflow_add-i : goal.overflow_add-i
-overflow_add-i c =
-    omega (arith, c.loop-i-test.true, c.requires)
-
-pub loop-i-smaller : goal.loop-i-smaller
-loop-i-smaller c =
-    omega (arith, c.loop-i-test.true)
 
 pub loop-i-preserved : goal.loop-i-preserved
 unfolding item_at

@@ -11,14 +11,6 @@ pub loop-i-init : goal.loop-i-init
 loop-i-init c =
     finding_starts _ _ _ _
 
-pub offset_bounds-items-i : goal.offset_bounds-items-i
-offset_bounds-items-i c =
-    omega (arith, c.loop-i-test.true, c.requires.2)
-
-pub bounds-items-i : goal.bounds-items-i
-bounds-items-i c =
-    omega (arith, c.loop-i-test.true, c.requires.2)
-
 pub find_key-found-requires : goal.find_key-found-requires
 find_key-found-requires c =
     (c.requires.0, c.requires.1)
@@ -30,22 +22,6 @@ returns-then-fault-ne0 c =
       result = (finding_stops _ _ _ _ _ _ c.loop-i.invariant c.loop-i-test.true _ c.high_in-high.ensures.result _
           c.find_key-found.ensures.result _ c.chain_fault-fault.ensures.result c.if-fault-ne0.true _);
     }
-
-pub offset_bounds-slots-i : goal.offset_bounds-slots-i
-offset_bounds-slots-i c =
-    omega (arith, c.loop-i-test.true, c.requires.2)
-
-pub bounds-slots-i : goal.bounds-slots-i
-bounds-slots-i c =
-    omega (arith, c.loop-i-test.true, c.requires.2)
-
-pub overflow_add-i : goal.overflow_add-i
-overflow_add-i c =
-    omega (arith, c.loop-i-test.true, c.requires.2)
-
-pub loop-i-smaller : goal.loop-i-smaller
-loop-i-smaller c =
-    omega (arith, c.loop-i-test.true)
 
 pub loop-i-preserved : goal.loop-i-preserved
 unfolding item_at

@@ -1,4 +1,4 @@
--- Invariants and measures of `calls_basket_plan_code::olds::find_olds`.
+-- Invariants of `calls_basket_plan_code::olds::find_olds`.
 use Prim.Native.Nat.{◌-◌}
 use native.Mathlib.Omega.{arith}
 use Rattle.index.specs.Walk.{search as following}
@@ -10,6 +10,3 @@ use Rattle.calls_basket_plan_code.proofs.olds.find_olds.Given as goal
 -- `calls_basket_plan_code::olds::find_olds` meets its contract. Assumes nothing.
 abbrev pub invariant-loop-i : goal.invariant-loop-i
 invariant-loop-i l = Finding (following l.l l.image l.heads l.next) l.l l.items l.count l.slots l.i
-
-abbrev pub decreases-loop-i : goal.decreases-loop-i
-decreases-loop-i l = l.count - l.i

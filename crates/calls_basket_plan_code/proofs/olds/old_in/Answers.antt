@@ -1,5 +1,6 @@
 -- Answers of `calls_basket_plan_code::olds::old_in`.
-use borrow.Author.Rules.{rules}
+use mathlib.Core.Path.{sym, ap}
+use mathlib.Core.Logic.{inl, inr}
 use Rattle.prelude.proofs.Tests.{tests}
 use Rattle.calls.specs.Basket.{old_in}
 use Rattle.calls_basket_plan_code.proofs.olds.old_in.Goals as goal
@@ -12,9 +13,4 @@ returns-in-At c =
 pub returns-in-Missing : goal.returns-in-Missing
 unfolding old_in
 returns-in-Missing c =
-    search tests
-
-pub returns-in-BadChain : goal.returns-in-BadChain
-unfolding old_in
-returns-in-BadChain c =
-    search tests
+    elim c.in-Missing.is [ inl e ↦ sym (ap old_in e.2) | inr e ↦ sym (ap old_in e) ]

@@ -1,45 +1,36 @@
 -- Answers of `calls_basket_plan_code::sizes::sizes_fault`.
-use Prim.Native.Nat.{◌-◌}
+use mathlib.Core.Path.{◌≡◌, ap, ◌∙◌}
+use Prim.Native.Nat.{◌<◌, ◌≤◌}
 use native.Mathlib.Omega.{arith}
 use lib.ListN.{length}
-use Rattle.calls.specs.BasketItems.{item_at}
-use Rattle.calls.specs.BasketRefusals.{value_fault}
-use Rattle.calls.proofs.BasketChecks.{Checking, check_starts, check_stops, check_on, check_ends, size-at}
 use borrow.Author.Rules.{rules}
+use Rattle.std.proofs.lemmas.List.{length-take}
+use Rattle.calls.specs.declared.BasketItem.{BasketItem}
+use Rattle.calls.specs.BasketRefusals.{value_fault}
+use Rattle.calls.proofs.BasketChecks.{check_starts, check_stops, check_on, check_ends, size-at, item_taken}
 use Rattle.calls_basket_plan_code.proofs.sizes.sizes_fault.Goals as goal
 
-pub loop-i-init : goal.loop-i-init
-loop-i-init c =
+pub loop-item-init : goal.loop-item-init
+loop-item-init c =
     check_starts _ _ _ _
 
-pub offset_bounds-items-i : goal.offset_bounds-items-i
-offset_bounds-items-i c =
-    omega (arith, c.loop-i-test.true, c.requires.1)
-
-pub bounds-items-i : goal.bounds-items-i
-bounds-items-i c =
-    omega (arith, c.loop-i-test.true, c.requires.1)
-
 pub returns-then-fault-ne0 : goal.returns-then-fault-ne0
-unfolding item_at
 returns-then-fault-ne0 c =
-    check_stops _ _ _ _ _ c.loop-i.invariant c.loop-i-test.true _ (size-at _ _ _ _ c.value_size_fault-fault.ensures)
+    let here : c.loop-item.item-index < c.args.count = omega (arith, c.loop-item-test.true, length-take c.args.count c.args.items) in
+    check_stops _ _ _ _ _ c.loop-item.invariant here _
+    (size-at _ _ _ _ (c.value_size_fault-fault.ensures
+    ∙ ap (λ (i : BasketItem). value_fault c.args.l i.action i.length) (item_taken c.args.items c.args.count _ _ c.loop-item-test.true)))
     c.if-fault-ne0.true
 
-pub overflow_add-i : goal.overflow_add-i
-overflow_add-i c =
-    omega (arith, c.loop-i-test.true, c.requires.1)
-
-pub loop-i-smaller : goal.loop-i-smaller
-loop-i-smaller c =
-    omega (arith, c.loop-i-test.true)
-
-pub loop-i-preserved : goal.loop-i-preserved
-unfolding item_at
-loop-i-preserved c =
-    check_on _ _ _ _ _ c.loop-i.invariant c.loop-i-test.true _ (size-at _ _ _ _ c.value_size_fault-fault.ensures)
+pub loop-item-preserved : goal.loop-item-preserved
+loop-item-preserved c =
+    let here : c.loop-item.item-index < c.args.count = omega (arith, c.loop-item-test.true, length-take c.args.count c.args.items) in
+    check_on _ _ _ _ _ c.loop-item.invariant here _
+    (size-at _ _ _ _ (c.value_size_fault-fault.ensures
+    ∙ ap (λ (i : BasketItem). value_fault c.args.l i.action i.length) (item_taken c.args.items c.args.count _ _ c.loop-item-test.true)))
     c.if-fault-ne0.false
 
 pub returns : goal.returns
 returns c =
-    check_ends _ _ _ _ _ c.loop-i.invariant c.loop-i-test.false
+    let size : length c.args.items ≡ 8 = search (rules, c.well_formed.1.0) in
+    check_ends _ _ _ _ _ c.loop-item.invariant (omega (arith, size, c.loop-item-test.false, length-take c.args.count c.args.items))

@@ -1,5 +1,7 @@
 -- Answers of `calls_format_code::format::format`.
+use mathlib.Core.Path.{◌≡◌}
 use native.Mathlib.Omega.{arith}
+use lib.ListN.{length, replicate}
 use borrow.Author.Rules.{rules}
 use Rattle.calls.specs.Format.{format_says}
 use Rattle.calls.proofs.Formats.{some_slots, format_refused, format_done, format_room, format_fits}
@@ -14,7 +16,6 @@ pub write_word-requires : goal.write_word-requires
 write_word-requires c =
     omega (
       arith,
-      c.zero_bytes.auto.image,
       format_room _ _ c.slot_count-n.ensures.result
           (some_slots _ _ _ c.format_fault-fault.ensures c.if-fault-ne0.false),
     )
@@ -24,7 +25,6 @@ write_word-requires-2 c =
     omega (
       arith,
       c.write_word.auto.image,
-      c.zero_bytes.auto.image,
       format_room _ _ c.slot_count-n.ensures.result
           (some_slots _ _ _ c.format_fault-fault.ensures c.if-fault-ne0.false),
     )
@@ -39,8 +39,9 @@ overflow_cast-result c =
 pub returns : goal.returns
 unfolding format_says
 returns c =
+    let zeros : c.fill.new.self ≡ replicate (length c.args.image.now) 0 = search rules in
     record {
       result = (format_done _ _ _ c.slot_count-n.ensures.result _ c.format_fault-fault.ensures
           c.if-fault-ne0.false _ _ _
-          c.zero_bytes.ensures c.write_word.ensures.result c.write_word-2.ensures.result);
+          zeros c.write_word.ensures.result c.write_word-2.ensures.result);
     }

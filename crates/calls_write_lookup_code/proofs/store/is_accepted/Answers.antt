@@ -1,27 +1,9 @@
 -- Answers of `calls_write_lookup_code::store::is_accepted`.
 use mathlib.Core.Path.{refl, sym, ◌∙◌}
-use mathlib.Core.Bool.{true≢false}
-use borrow.Author.Rules.{rules}
 use Rattle.allocation.specs.Allocation.{allocation_by}
 use Rattle.index.proofs.Faults.{reusable}
 use Rattle.calls.proofs.Lookups.{store_version}
 use Rattle.calls_write_lookup_code.proofs.store.is_accepted.Goals as goal
-
-pub returns-then-ends_fault-ne0 : goal.returns-then-ends_fault-ne0
-returns-then-ends_fault-ne0 c =
-    record { result = (λ e. absurd (true≢false (sym e))) }
-
-pub returns-then-state-removes : goal.returns-then-state-removes
-returns-then-state-removes c =
-    record { result = (λ e. absurd (true≢false (sym e))) }
-
-pub returns-then-live_fault-ne0 : goal.returns-then-live_fault-ne0
-returns-then-live_fault-ne0 c =
-    record { result = (λ e. absurd (true≢false (sym e))) }
-
-pub returns-then-version_fault-ne0 : goal.returns-then-version_fault-ne0
-returns-then-version_fault-ne0 c =
-    record { result = (λ e. absurd (true≢false (sym e))) }
 
 pub is_own_open-requires : goal.is_own_open-requires
 is_own_open-requires c =
@@ -40,7 +22,3 @@ returns-then-own c =
           c.version_fault.ensures.result)
           ∙ c.if-version_fault-ne0.false));
     }
-
-pub returns : goal.returns
-returns c =
-    record { result = (λ e. absurd (true≢false (sym e))) }
