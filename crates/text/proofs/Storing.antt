@@ -11,7 +11,9 @@ use lib.ListN.{length, get_or, set, take, drop, length-set, length-drop, length-
 use lib.Seq.{take_all, drop-cons, drop-set-lt, get_or-set_same, sets, length-sets}
 use borrow.Author.Tests.{lt-ltb, le-ltb}
 use Rattle.prelude.proofs.Choice.{pick_true, pick_false}
-use Rattle.prelude.proofs.Buffers.{sets_append, sets_front}
+use Rattle.prelude.proofs.Buffers.{paste-sets, sets_append, sets_front}
+use borrow.Rule.Slice.PartMut.{put_mid}
+use Rattle.std.proofs.lemmas.Slice.{put_mid-paste}
 use Rattle.text.specs.Output.{digits_onto, decimal, numbers_text, line_text, written, Rendered, render_end, render_result, Printed, ok, found, not_held, cut}
 use Rattle.text.specs.Output.{no, counted, nothing, text}
 use Rattle.text.specs.inner.Output.{Wrote}
@@ -21,6 +23,12 @@ pub written-sets : (out : List ℕ) (at : ℕ) (bytes : List ℕ) → written ou
 unfolding written
 written-sets out at [] = refl
 written-sets out at (byte ∷ bytes) = written-sets (set out at byte) (suc at) bytes
+
+-- and so are those that are copied into a part
+pub bytes_stored : (out bytes part : List ℕ) (at k : ℕ) → part ≡ bytes → k ≡ length bytes → at + length bytes ≤ length out
+    → put_mid at k out part ≡ written out at bytes
+bytes_stored out bytes part at k e h room =
+    put_mid-paste at k out part bytes (length bytes) e (sym h) refl ∙ paste-sets out bytes at (length bytes) refl room ∙ sym (written-sets out at bytes)
 
 written_append : (out : List ℕ) (at : ℕ) (xs ys : List ℕ)
     → written (written out at xs) (at + length xs) ys ≡ written out at (xs ++ ys)

@@ -6,15 +6,12 @@ ghost use Rattle.text.specs.inner.Output.{reply_says, Wrote};
 use text::Reply;
 
 // The bytes are stored from position at on.
+#[tactic(auto, using(text::proofs::Storing::bytes_stored))]
 fn store_bytes(out: &mut [u8], at: usize, bytes: &[u8])
     requires { at + length bytes.now ≤ length out.old }
     ensures { out.new ≡ written out.old at bytes.now }
 {
-    let mut i = 0;
-    while i < bytes.len() {
-        out[at + i] = bytes[i];
-        i += 1;
-    }
+    out[at..at + bytes.len()].copy_from_slice(bytes);
 }
 
 // The decimal digits of n fill the end of the 20 bytes: the position of the first one.
@@ -22,16 +19,15 @@ fn store_digits(n: u64, space: &mut [u8]) -> usize
     requires { length space.old ≡ 20 }
     ensures { (result < 20) × (drop result space.new ≡ decimal n) }
 {
-    let mut i = 20;
     let mut rest = n;
-    while 10 <= rest {
-        i -= 1;
-        space[i] = (48 + rest % 10) as u8;
+    for i in (0..20).rev() {
+        space[i] = b'0' + (rest % 10) as u8;
+        if rest < 10 {
+            return i;
+        }
         rest /= 10;
     }
-    i -= 1;
-    space[i] = (48 + rest) as u8;
-    i
+    unreachable!()
 }
 
 // A space and the number n: the position after them.
@@ -53,10 +49,8 @@ fn store_line(out: &mut [u8], at: usize, word: &[u8], numbers: &[u64]) -> usize
 {
     store_bytes(out, at, word);
     let mut after = at + word.len();
-    let mut i = 0;
-    while i < numbers.len() {
-        after = store_number(out, after, numbers[i]);
-        i += 1;
+    for n in numbers {
+        after = store_number(out, after, *n);
     }
     store_bytes(out, after, b"\n");
     after + 1
@@ -80,28 +74,21 @@ pub fn store_numbers(out: &mut [u8], at: usize, first: u64, rest: &[u64]) -> usi
     store_line(out, at, &space[from..], rest)
 }
 
-// The word and two numbers after it.
-fn store_two(out: &mut [u8], at: usize, word: &[u8], a: u64, b: u64) -> usize
-    requires { at + length word.now + 43 ≤ length out.old }
-    ensures { Wrote out.old out.new at result (word.now ++ numbers_text (a ∷ b ∷ [])) }
-{
-    store_line(out, at, word, &[a, b])
-}
-
 // The answer's line, where 64 bytes are left.
+#[tactic(auto, using(text::proofs::Storing::wrote_nothing), unfolding(text::specs::Output::text, text::specs::inner::Output::reply_says))]
 fn store_reply(reply: Reply, out: &mut [u8], at: usize) -> usize
     requires { at + 64 ≤ length out.old }
     ensures { Wrote out.old out.new at result (text (reply_says reply)) }
 {
     match reply {
         Reply::Made(n) => store_one(out, at, b"ok", n),
-        Reply::Stored { slot, version } => store_two(out, at, b"ok", slot as u64, version),
+        Reply::Stored { slot, version } => store_line(out, at, b"ok", &[u64::from(slot), version]),
         Reply::Found(word) => store_one(out, at, b"found", word),
         Reply::Absent => store_line(out, at, b"absent", &[]),
-        Reply::Cut { a, b } => store_two(out, at, b"cut", a, b),
-        Reply::Refused(number) => store_one(out, at, b"no", number as u64),
+        Reply::Cut { a, b } => store_line(out, at, b"cut", &[a, b]),
+        Reply::Refused(number) => store_one(out, at, b"no", u64::from(number)),
         Reply::Counted { earlier, later } => {
-            store_numbers(out, at, earlier as u64, &[later as u64])
+            store_numbers(out, at, u64::from(earlier), &[u64::from(later)])
         }
         Reply::Nothing => at,
     }
@@ -109,13 +96,11 @@ fn store_reply(reply: Reply, out: &mut [u8], at: usize) -> usize
 
 // The answer's line is stored from position at on: the position after it. Where fewer than 64 bytes are left, nothing
 // is stored.
+#[tactic(auto, using(text::proofs::Storing::no_room))]
 pub fn render(reply: Reply, out: &mut [u8], at: usize) -> usize
     ensures result { render_end result out.new ≡ render_result (reply_says reply) out.old at }
 {
-    if out.len() < at {
-        return at;
-    }
-    if out.len() - at < 64 {
+    if out.len() < at || out.len() - at < 64 {
         return at;
     }
     store_reply(reply, out, at)

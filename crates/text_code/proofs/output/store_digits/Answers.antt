@@ -1,23 +1,19 @@
 -- Answers of `text_code::output::store_digits`.
 use native.Mathlib.Omega.{arith}
-use lib.ListN.{length-set}
-use mathlib.Core.Path.{sym, ◌∙◌}
-use Rattle.text.proofs.Storing.{Filling, filling_begins, filling_more, filling_last}
-use borrow.Author.Rules.{rules}
+use mathlib.Core.Path.{◌≡◌}
+use Prim.Native.Nat.{◌%◌}
+use Rattle.text.proofs.Storing.{filling_begins, filling_more, filling_last}
 use Rattle.text_code.proofs.output.store_digits.Goals as goal
 
-pub loop-rest-init : goal.loop-rest-init
-loop-rest-init c =
-    search (rules, filling_begins)
+pub loop-i-init : goal.loop-i-init
+loop-i-init c =
+    filling_begins _ _ (omega arith) c.requires
 
-pub loop-rest-preserved : goal.loop-rest-preserved
-loop-rest-preserved c =
-    search filling_more
+pub returns-then-rest-lt10 : goal.returns-then-rest-lt10
+returns-then-rest-lt10 c =
+    let last : c.loop-i.rest % 10 ≡ c.loop-i.rest = omega arith in
+    (omega (arith, c.loop-i.invariant.high, c.loop-i.invariant.low), rw last (filling_last _ _ _ _ c.loop-i.invariant c.if-rest-lt10.true))
 
-pub shape_of-space : goal.shape_of-space
-shape_of-space c =
-    simp length-set (c.loop-rest.invariant.size ∙ sym c.requires)
-
-pub returns : goal.returns
-returns c =
-    (omega (arith, c.loop-rest.invariant.high, c.loop-rest.invariant.low), search filling_last)
+pub loop-i-preserved : goal.loop-i-preserved
+loop-i-preserved c =
+    filling_more _ _ _ _ c.loop-i.invariant c.if-rest-lt10.false

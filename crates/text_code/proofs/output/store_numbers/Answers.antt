@@ -1,6 +1,5 @@
 -- Answers of `text_code::output::store_numbers`.
 use Rattle.text.proofs.Storing.{numbers_wrote}
-use borrow.Author.Rules.{rules}
 use Rattle.text_code.proofs.output.store_numbers.Goals as goal
 
 pub returns : goal.returns
