@@ -6,8 +6,9 @@ ghost use Rattle.calls.specs.BasketItems.{changes_of};
 
 use calls::BasketItem;
 use index::Action;
-use layout_code::header::lent_fault;
+use layout_code::header::check_lent;
 use layout_fields_code::fields::value_limit;
+use refusals::return_code;
 
 // 10 by the length of a value, else 0; a remove has none.
 fn value_size_fault(l: usize, action: Action, size: usize) -> u32
@@ -51,7 +52,7 @@ pub fn basket_lent_fault(
     requires { Layout l × (count ≤ 8) }
     ensures result { (values : List ℕ) → result ≡ basket_lent_fault l image.now heads next (changes_of l count items values) }
 {
-    let lent = lent_fault(image, l, heads, next);
+    let lent = return_code(check_lent(image, l, heads, next));
     if lent != 0 {
         return lent;
     }

@@ -9,7 +9,8 @@ use allocation_code::choose::{choose_by, none_chosen};
 use allocation_code::take::full_fault;
 use index::State;
 use index_read_code::fault::{ends_fault, live_fault};
-use layout_line_code::line::version_fault;
+use layout_line_code::line::check_version;
+use refusals::return_code;
 
 // The slots of a call that wants so many; or 11 (reuse, or fewer live than are removed), 28 or 9; own tells whether it
 // is for the owner of its index.
@@ -47,7 +48,7 @@ pub fn choose_slots(
     if room != 0 {
         return none_chosen(room);
     }
-    let version = version_fault(state.version);
+    let version = return_code(check_version(state.version));
     if version != 0 {
         return none_chosen(version);
     }

@@ -9,9 +9,10 @@ ghost use Rattle.calls.specs.inner.Lookup.{FoundInside, GetLookup};
 use calls::{GetAnswer, Got};
 use index::{Found, Lookup, Place};
 use index_read_code::search::{find_key, looked_up};
-use layout_code::header::{lent_fault, slot_count};
+use layout_code::header::{check_lent, slot_count};
 use layout_code::value::copy_value;
 use layout_fields_code::fields::{layout_number, slot_length, value_limit};
+use refusals::return_code;
 
 // 23 or 13 for a value of n bytes and an output of this size, else 0.
 fn length_fault(l: usize, n: usize, size: usize) -> u32
@@ -52,7 +53,7 @@ fn get_lookup(
     requires { Layout l }
     ensures { GetLookup l image.now heads.now next.now (key_with low high) size result }
 {
-    let lent = lent_fault(image, l, heads.len(), next.len());
+    let lent = return_code(check_lent(image, l, heads.len(), next.len()));
     if lent != 0 {
         return Lookup::Refused {
             number: lent,

@@ -7,8 +7,9 @@ ghost use Rattle.calls.specs.Locate.{locate_end, locate_result};
 use calls::{LocateAnswer, Located};
 use index::Found;
 use index_read_code::search::find_key;
-use layout_code::header::{lent_fault, slot_count};
+use layout_code::header::{check_lent, slot_count};
 use layout_fields_code::fields::layout_number;
+use refusals::return_code;
 use words_code::read_word;
 
 // Locate, in layout l.
@@ -23,7 +24,7 @@ pub fn locate_in(
     requires { Layout l }
     ensures result { locate_end result ≡ locate_result l image.now heads.now next.now (key_with low high) }
 {
-    let lent = lent_fault(image, l, heads.len(), next.len());
+    let lent = return_code(check_lent(image, l, heads.len(), next.len()));
     if lent != 0 {
         return LocateAnswer {
             located: Located::Refused(lent),

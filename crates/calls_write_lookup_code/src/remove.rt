@@ -6,7 +6,8 @@ ghost use Rattle.calls.specs.inner.Lookup.{RemoveLookup};
 use crate::store::{is_accepted, store_fault};
 use index::{Found, Lookup, Place, State};
 use index_read_code::search::{find_key, unless_refused};
-use layout_code::header::{lent_fault, slot_count};
+use layout_code::header::{check_lent, slot_count};
+use refusals::return_code;
 
 // What a remove reads before it writes. One match gives both the refusal and the place, so that few values live at
 // once.
@@ -23,7 +24,7 @@ pub fn remove_lookup(
     requires { Layout l }
     ensures result { RemoveLookup own l image.now (index_of heads.now next.now state) (key_with low high) result }
 {
-    let lent = lent_fault(image, l, heads.len(), next.len());
+    let lent = return_code(check_lent(image, l, heads.len(), next.len()));
     if lent != 0 {
         return Lookup::Refused {
             number: lent,

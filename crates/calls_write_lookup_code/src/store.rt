@@ -7,7 +7,8 @@ ghost use Rattle.calls.specs.Change.{store_fault};
 use allocation_code::take::{full_fault, is_own_open, take_fault_by};
 use index::State;
 use index_read_code::fault::{ends_fault, live_fault};
-use layout_line_code::line::version_fault;
+use layout_line_code::line::check_version;
+use refusals::return_code;
 
 // Do the state and the first slot of the reuse chain tell that a call that takes one slot is not refused? This is the
 // usual case, and small, so that the compiler makes it part of each call; own tells whether it is for the owner of its
@@ -29,7 +30,7 @@ pub fn is_accepted(
     if ends_fault(n as u32, state.first, state.last) != 0
         || state.live < removes
         || live_fault(n as u32, state.live, inserts, removes) != 0
-        || version_fault(state.version) != 0
+        || check_version(state.version).is_err()
     {
         return false;
     }
@@ -71,5 +72,5 @@ pub fn store_fault(
     if room != 0 {
         return room;
     }
-    version_fault(state.version)
+    return_code(check_version(state.version))
 }

@@ -10,15 +10,16 @@ ghost use Rattle.calls.specs.inner.Lookup.{WriteLookup};
 use crate::store::{is_accepted, store_fault};
 use index::{Found, Lookup, Mode, Place, State};
 use index_read_code::search::{find_key, unless_refused};
-use layout_code::header::{lent_fault, slot_count};
+use layout_code::header::{check_lent, slot_count};
 use layout_fields_code::fields::value_limit;
+use refusals::return_code;
 
 // 1, 2, 3, 4 or 10 by what is lent, else 0; size is the value's length.
 fn write_lent_fault(image: &[u8], l: usize, heads: usize, next: usize, size: usize) -> u32
     requires { Layout l }
     ensures { result ≡ write_lent_fault l image.now heads next size }
 {
-    let lent = lent_fault(image, l, heads, next);
+    let lent = return_code(check_lent(image, l, heads, next));
     if lent != 0 {
         return lent;
     }

@@ -1,7 +1,8 @@
 -- A refusal has a number above 0, and what a `?` hands on.
-use Rattle.std.specs.Prelude.{◌≡◌, ℕ, ◌<◌, Result, Ok, Err}
-use Rattle.std.specs.Result.{IsErrAnd}
+use Rattle.std.specs.Prelude.{◌≡◌, ℕ, ◌<◌, Result, Ok, Err, Bool, false}
+use Rattle.std.specs.Result.{IsErrAnd, is_err}
 use Rattle.std.proofs.Common.{arith, refl}
+use mathlib.Core.Bool.{true≢false}
 use Rattle.refusals.specs.declared.Refusal.{Refusal}
 use Rattle.refusals.specs.declared.Refusal.TheVariants.{BadImageLength, NotFormatted, BadHeader, BadIndexLength, BadMark, BadKindBits, VersionShared, NoSpareSlot, Exhausted, ValueTooLong, IndexMismatch, BufferTooShort, CountTooHigh, BadStores, BadLine, NewKeyExists, NoOrder, BadQuantity, KeyExists, KeyMissing, BadKind, BadValueLength, BadTail, TooManyBroken, BadBasket, KeyTwice, Full, BadMessage, BadLogLength, NoMessage, BadLayout, BadLineLength}
 use Rattle.refusals.specs.Number.{code_of, fault_in}
@@ -47,3 +48,8 @@ not_zero r z = let above = number_above r in omega arith
 pub handed_on : {A : Type 0} (e : Refusal) (r : Result A Refusal) → IsErrAnd r (λ y. y ≡ e) → fault_in r ≡ code_of e
 handed_on e (Ok value) h = absurd h
 handed_on e (Err refusal) h = rw h refl
+
+-- no error has no number
+pub no_error : {A : Type 0} (r : Result A Refusal) → is_err r ≡ false → fault_in r ≡ 0
+no_error (Ok value) e = refl
+no_error (Err refusal) e = absurd (true≢false e)

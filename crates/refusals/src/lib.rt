@@ -52,11 +52,11 @@ impl Refusal {
 }
 
 // The number of the refusal, 0 for a call that is done.
-pub fn return_code(done: Result<(), Refusal>) -> u32
+pub fn return_code<T: Copy>(done: Result<T, Refusal>) -> u32
     ensures result { result ≡ fault_in done }
 {
     match done {
-        Ok(()) => 0,
+        Ok(_) => 0,
         Err(refusal) => refusal.code(),
     }
 }

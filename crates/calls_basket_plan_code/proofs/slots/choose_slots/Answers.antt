@@ -70,7 +70,7 @@ returns-then-version-ne0 c =
       result = (no_choice _ _ _ _ _ _ _ _ _ c.none_chosen-then-version-ne0.ensures.result c.if-version-ne0.true
           (store_version _ _ c.args.state _ _ _ c.ends_fault-ends.ensures.result c.if-ends-ne0.false
           c.if-state-removes.false _ c.choose_by-choice.ensures.result.fault_is c.if-choice-ne0.false _ c.live_fault-room.ensures.result
-          c.if-room-ne0.false _ c.version_fault-version.ensures.result));
+          c.if-room-ne0.false _ (c.return_code-version.ensures.result ∙ c.check_version.ensures.result)));
     }
 
 pub returns : goal.returns
@@ -79,5 +79,5 @@ returns c =
       result = (a_choice _ _ _ _ _ _ _ _ c.choose_by-choice.ensures.result c.if-choice-ne0.false _ c.if-version-ne0.false
           (store_version _ _ c.args.state _ _ _ c.ends_fault-ends.ensures.result c.if-ends-ne0.false
           c.if-state-removes.false _ c.choose_by-choice.ensures.result.fault_is c.if-choice-ne0.false _ c.live_fault-room.ensures.result
-          c.if-room-ne0.false _ c.version_fault-version.ensures.result));
+          c.if-room-ne0.false _ (c.return_code-version.ensures.result ∙ c.check_version.ensures.result)));
     }

@@ -1,5 +1,6 @@
 -- Answers of `calls_write_lookup_code::store::is_accepted`.
 use mathlib.Core.Path.{refl, sym, ◌∙◌}
+use Rattle.refusals.proofs.Numbers.{no_error}
 use Rattle.allocation.specs.Allocation.{allocation_by}
 use Rattle.index.proofs.Faults.{reusable}
 use Rattle.calls.proofs.Lookups.{store_version}
@@ -19,6 +20,6 @@ returns-then-own c =
           (sym
           (store_version _ _ c.args.state _ _ _ c.ends_fault.ensures.result c.if-ends_fault-ne0.false c.if-state-removes.false _
           (sym (c.is_own_open.ensures.result e)) refl _ c.live_fault.ensures.result c.if-live_fault-ne0.false _
-          c.version_fault.ensures.result)
-          ∙ c.if-version_fault-ne0.false));
+          (c.check_version.ensures.result))
+          ∙ no_error _ (sym c.is_err.ensures.value ∙ c.if-is_err.false)));
     }

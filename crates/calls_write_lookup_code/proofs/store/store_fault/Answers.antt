@@ -61,5 +61,5 @@ returns c =
       result = (store_version _ _ c.args.state _ _ _ c.ends_fault-ends.ensures.result c.if-ends-ne0.false
           c.if-state-removes.false _ c.take_fault_by-take.ensures.result c.if-take-ne0.false _
           c.live_fault-room.ensures.result
-          c.if-room-ne0.false _ c.version_fault.ensures.result);
+          c.if-room-ne0.false _ (c.return_code.ensures.result ∙ c.check_version.ensures.result));
     }
