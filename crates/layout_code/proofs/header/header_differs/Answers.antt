@@ -1,4 +1,5 @@
 -- Answers of `layout_code::header::header_differs`.
+use borrow.Author.Rules.{rules}
 use Rattle.layout.proofs.Headers.{first_other, second_other, rest_decides}
 use Rattle.layout_code.proofs.header.header_differs.Goals as goal
 

@@ -1,4 +1,5 @@
 -- Answers of `layout_code::header::header_fault`.
+use borrow.Author.Rules.{rules}
 use Rattle.layout.proofs.Headers.{header_none, header_other, header_right}
 use Rattle.layout_code.proofs.header.header_fault.Goals as goal
 

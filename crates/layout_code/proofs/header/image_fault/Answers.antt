@@ -1,6 +1,7 @@
 -- Answers of `layout_code::header::image_fault`.
 use mathlib.Core.Path.{◌∙◌}
 use native.Mathlib.Omega.{arith}
+use borrow.Author.Rules.{rules}
 use Rattle.layout.proofs.Size.{long}
 use Rattle.layout.proofs.Headers.{no_slots, by_header}
 use Rattle.layout_code.proofs.header.image_fault.Goals as goal

@@ -1,4 +1,5 @@
 -- Answers of `layout_code::header::index_fault`.
+use borrow.Author.Rules.{rules}
 use Rattle.prelude.proofs.Tests.{tests}
 use Rattle.prelude.specs.Refusal.{refuse_if}
 use Rattle.layout.specs.Header.{index_fault}

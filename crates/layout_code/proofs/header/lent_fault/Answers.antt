@@ -1,6 +1,7 @@
 -- Answers of `layout_code::header::lent_fault`.
 use native.Mathlib.Omega.{arith}
 use lib.ListN.{length}
+use borrow.Author.Rules.{rules}
 use Rattle.layout.proofs.Size.{slots_high}
 use Rattle.layout.proofs.Headers.{by_image, by_index}
 use Rattle.layout_code.proofs.header.lent_fault.Goals as goal

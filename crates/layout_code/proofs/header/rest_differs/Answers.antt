@@ -1,4 +1,5 @@
 -- Answers of `layout_code::header::rest_differs`.
+use borrow.Author.Rules.{rules}
 use Rattle.words.specs.Word.{word}
 use Rattle.layout.proofs.Headers.{rest_in_one}
 use Rattle.layout_code.proofs.header.rest_differs.Goals as goal

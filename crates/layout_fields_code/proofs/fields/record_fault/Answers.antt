@@ -1,5 +1,6 @@
 -- Answers of `layout_fields_code::fields::record_fault`.
 use mathlib.Core.Path.{sym, ◌∙◌}
+use borrow.Author.Rules.{rules}
 use Rattle.layout.proofs.RecordFields.{within, fault_by_word, fault_by_tail, no_fault}
 use Rattle.layout_fields_code.proofs.fields.record_fault.Goals as goal
 

@@ -1,8 +1,11 @@
 -- Answers of `layout_fields_code::fields::tail_fault`.
+use Prim.Native.Nat.{◌-◌}
 use native.Mathlib.Omega.{arith}
 use borrow.Author.Rules.{rules}
+use Rattle.words.specs.Word.{word}
+use Rattle.layout.specs.Line.{line_a, line_b}
 use Rattle.layout.specs.Fault.{tail_fault}
-use Rattle.layout.proofs.Tails.{left_start, left_hit, left_next, left_end}
+use Rattle.layout.proofs.Tails.{TailLeft, left_start, left_hit, left_next, left_end}
 use Rattle.layout_fields_code.proofs.fields.tail_fault.Goals as goal
 
 pub loop-i-init : goal.loop-i-init

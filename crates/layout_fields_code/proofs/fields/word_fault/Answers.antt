@@ -1,4 +1,5 @@
 -- Answers of `layout_fields_code::fields::word_fault`.
+use borrow.Author.Rules.{rules}
 use Rattle.layout.proofs.RecordFields.{bad_bits, bad_kind, bad_length, no_word_fault}
 use Rattle.layout_fields_code.proofs.fields.word_fault.Goals as goal
 

@@ -1,4 +1,5 @@
 -- Answers of `layout_line_code::slot::mark_fault`.
+use borrow.Author.Rules.{rules}
 use Rattle.layout.proofs.Verdicts.{bad_mark, other_mark}
 use Rattle.layout_line_code.proofs.slot.mark_fault.Goals as goal
 
