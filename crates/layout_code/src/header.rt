@@ -15,13 +15,10 @@ pub fn slot_count(len: usize) -> usize
     ensures result { result ≡ slots_of len }
 {
     let turned = len / 128 + len % 128 * 144115188075855872;
-    if turned < 3 {
-        return 0;
+    match turned {
+        3..=65536 => turned - 1,
+        _ => 0,
     }
-    if 65536 < turned {
-        return 0;
-    }
-    turned - 1
 }
 
 // Is one of the words 2 to 7 of the header other than zero?

@@ -27,9 +27,10 @@ pub fn slot_high(image: &[u8], l: usize, s: usize) -> u64
     ensures result { result ≡ high_word l (line_a (word image.now) s) }
 {
     if l == 1 {
-        return 0;
+        0
+    } else {
+        read_word(image, 16 * s + 2)
     }
-    read_word(image, 16 * s + 2)
 }
 
 // Is the key with these words that of slot s?
@@ -37,10 +38,7 @@ pub fn has_key(image: &[u8], l: usize, s: usize, low: u64, high: u64) -> bool
     requires { SlotInside image.now l s }
     ensures result { result ≡ eqb (key_of l (line_a (word image.now) s)) (key_with low high) }
 {
-    if slot_low(image, s) != low {
-        return false;
-    }
-    slot_high(image, l, s) == high
+    slot_low(image, s) == low && slot_high(image, l, s) == high
 }
 
 // The kind word of slot s.
@@ -69,10 +67,7 @@ fn length_of(w: u64) -> usize
 pub fn layout_number(wide: bool) -> usize
     ensures result { result ≡ layout_number wide }
 {
-    if wide {
-        return 2;
-    }
-    1
+    if wide { 2 } else { 1 }
 }
 
 // The greatest length of a value.

@@ -35,13 +35,15 @@ pub fn last_word(stamp: u64, version: u64) -> u64
 }
 
 // The version on a whole line, 0 on an open one.
+#[tactic(auto, unfolding(layout::specs::Line::whole_version))]
 pub fn line_top(mark: u64, stamp: u64) -> u64
     ensures result { result ≡ whole_version mark stamp }
 {
     if is_whole(mark, stamp) {
-        return version_of(stamp);
+        version_of(stamp)
+    } else {
+        0
     }
-    0
 }
 
 // The refusal 9, of a next version that cannot be written.

@@ -9,30 +9,27 @@ use layout::Verdict;
 use words_code::{greater, read_word};
 
 // Are both lines whole, with one version?
+#[tactic(auto, unfolding(layout::specs::Slot::paired))]
 fn is_pair(mark_a: u64, stamp_a: u64, mark_b: u64, stamp_b: u64) -> bool
     ensures { result ≡ paired mark_a stamp_a mark_b stamp_b }
 {
-    if !is_whole(mark_a, stamp_a) {
-        return false;
-    }
-    if !is_whole(mark_b, stamp_b) {
-        return false;
-    }
-    version_of(stamp_a) == version_of(stamp_b)
+    is_whole(mark_a, stamp_a)
+        && is_whole(mark_b, stamp_b)
+        && version_of(stamp_a) == version_of(stamp_b)
 }
 
 // The verdict that marks and stamps give.
+#[tactic(auto, unfolding(layout::specs::Slot::verdict_of))]
 pub fn verdict_of(mark_a: u64, stamp_a: u64, mark_b: u64, stamp_b: u64) -> Verdict
     ensures result { result ≡ verdict_of mark_a stamp_a mark_b stamp_b }
 {
-    if is_pair(mark_a, stamp_a, mark_b, stamp_b) {
-        let version = version_of(stamp_a);
-        if version == 0 {
-            return Verdict::Empty;
-        }
-        return Verdict::Valid(version);
+    if !is_pair(mark_a, stamp_a, mark_b, stamp_b) {
+        return Verdict::Broken(greater(line_top(mark_a, stamp_a), line_top(mark_b, stamp_b)));
     }
-    Verdict::Broken(greater(line_top(mark_a, stamp_a), line_top(mark_b, stamp_b)))
+    match version_of(stamp_a) {
+        0 => Verdict::Empty,
+        version => Verdict::Valid(version),
+    }
 }
 
 // The verdict on slot s.

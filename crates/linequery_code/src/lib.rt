@@ -34,10 +34,7 @@ fn check_next(line: usize, answer: usize, version: u64) -> Result<(), Refusal>
 fn whole_word(mark: u64, stamp: u64) -> u64
     ensures { result ≡ cond (whole mark stamp) 1 0 }
 {
-    if is_whole(mark, stamp) {
-        return 1;
-    }
-    0
+    u64::from(is_whole(mark, stamp))
 }
 
 // Is the line whole?

@@ -10,11 +10,7 @@ pub fn make_stores(image: &mut [u8], at: &[u32], value: &[u64], from: usize, cou
     requires { Makeable (length image.old) at.now value.now from count }
     ensures result { image.new ≡ played (take count (drop from (zipped at.now value.now))) image.old }
 {
-    let end = from + count;
-    let mut k = from;
-    while k < end {
-        let w = at[k] as usize;
-        write_word(image, w, value[k]);
-        k += 1;
+    for k in from..from + count {
+        write_word(image, at[k] as usize, value[k]);
     }
 }

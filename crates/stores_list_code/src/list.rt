@@ -9,12 +9,10 @@ pub fn fill_store_list(list: &mut [Store], at: &[u32], words: &[u64], count: usi
     requires { (count ≤ length list.old) × (count ≤ length at.now) × (count ≤ length words.now) }
     ensures result { list.new ≡ stores_put at.now words.now count list.old }
 {
-    let mut i = 0;
-    while i < count {
+    for i in 0..count {
         list[i] = Store {
             word: at[i],
             value: words[i],
         };
-        i += 1;
     }
 }

@@ -31,11 +31,8 @@ fn make_all(image: &mut [u8], list: &[Store])
     requires { AllInside (length image.old) list.now }
     ensures { image.new ≡ played list.now image.old }
 {
-    let mut i = 0;
-    while i < list.len() {
-        let store = list[i];
+    for store in list {
         write_word(image, store.word as usize, store.value);
-        i += 1;
     }
 }
 

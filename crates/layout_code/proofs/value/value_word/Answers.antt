@@ -1,5 +1,4 @@
 -- Answers of `layout_code::value::value_word`.
-use borrow.Author.Rules.{rules}
 use Rattle.layout.proofs.Places.{value-word}
 use Rattle.layout_code.proofs.value.value_word.Goals as goal
 

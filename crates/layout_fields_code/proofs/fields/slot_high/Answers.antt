@@ -1,6 +1,5 @@
 -- Answers of `layout_fields_code::fields::slot_high`.
 use mathlib.Core.Path.{◌∙◌}
-use borrow.Author.Rules.{rules}
 use Rattle.words.specs.Word.{word}
 use Rattle.layout.specs.Line.{line_a}
 use Rattle.layout.proofs.KeyWords.{no_high, high_at}
@@ -12,8 +11,8 @@ pub returns-then-l-eq1 : goal.returns-then-l-eq1
 returns-then-l-eq1 c =
     record { result = (no_high _ _ c.if-l-eq1.true) }
 
-pub returns : goal.returns
-returns c =
+pub returns-else-l-eq1 : goal.returns-else-l-eq1
+returns-else-l-eq1 c =
     record {
       result = (c.read_word.ensures.result ∙ second_at (word c.args.image.now) c.args.s
           ∙ high_at c.args.l (line_a (word c.args.image.now) c.args.s) c.requires.layout c.if-l-eq1.false);

@@ -1,5 +1,4 @@
 -- Answers of `layout_line_code::slot::slot_verdict`.
-use borrow.Author.Rules.{rules}
 use Rattle.layout.proofs.Verdicts.{judged_slot}
 use Rattle.layout_line_code.proofs.slot.slot_verdict.Goals as goal
 

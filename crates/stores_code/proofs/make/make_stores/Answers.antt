@@ -9,14 +9,10 @@ pub loop-k-init : goal.loop-k-init
 loop-k-init c =
     making_start _ _ _ _ _
 
-pub overflow_cast-w : goal.overflow_cast-w
-overflow_cast-w c =
-    omega (arith, c.shared_slice_known-in-loop-k-1.given c.loop-k.k)
-
 pub write_word-requires : goal.write_word-requires
 write_word-requires c =
     omega
-    (arith, c.requires.inside c.loop-k.k c.loop-k.invariant.low c.loop-k-test.true, c.loop-k.invariant.size)
+    (arith, c.requires.inside c.loop-k.k c.loop-k.invariant.low (omega arith), c.loop-k.invariant.size)
 
 pub loop-k-preserved : goal.loop-k-preserved
 loop-k-preserved c =

@@ -8,6 +8,3 @@ use Rattle.stores_code.proofs.make.make_stores.Given as goal
 -- `stores_code::make::make_stores` meets its contract. Assumes nothing.
 abbrev pub invariant-loop-k : goal.invariant-loop-k
 invariant-loop-k l = Making l.at l.value l.initial.image l.image l.from l.count l.k
-
-abbrev pub decreases-loop-k : goal.decreases-loop-k
-decreases-loop-k l = l.from + l.count - l.k
