@@ -1,12 +1,14 @@
 -- What the functions that compare neighbours need. Assumes nothing.
 use mathlib.Core.Path.{◌≡◌, refl, sym, ap, ap₂, ◌∙◌}
-use mathlib.Core.Bool.{Bool, true, false, cond, not, ◌&&◌}
+use mathlib.Core.Bool.{Bool, true, false, cond, ◌&&◌, ◌||◌}
 use mathlib.Core.List.{List}
-use Prim.Native.Nat.{ℕ, ◌+◌, ◌-◌, ◌≤◌, ◌<◌}
+use Prim.Native.Nat.{ℕ, zero, suc, ◌+◌, ◌-◌, ◌≤◌, ◌<◌}
 use native.Mathlib.Omega.{arith}
+use native.Mathlib.Numerals.{add-one}
 use lib.Dec.{eqb, ltb, leb}
 use lib.ListN.{length, get_or}
-use borrow.Author.Tests.{lt-ltb, le-ltb, le-leb, lt-leb, eq-eqb, ne_eqb, not-true, not-false}
+use borrow.Author.Tests.{lt-ltb, le-ltb, le-leb, lt-leb, eq-eqb, ne_eqb}
+use Rattle.std.specs.List.{list_any, range_with_len}
 use Rattle.prelude.proofs.Choice.{pick_true, pick_false, false_left, true-false, is_false}
 use Rattle.prelude.specs.Members.{Slot, slot_numbers}
 use Rattle.prelude.proofs.Any.{any_none_at, any_clear_at}
@@ -24,6 +26,17 @@ use Rattle.recovery.specs.inner.Judge.{OrderNumbered, Comparable, Compared}
 use Rattle.recovery.proofs.Orders.{whole_order, whole_within}
 use Rattle.recovery.proofs.Scans.{highs_all}
 use Rattle.recovery.proofs.Neighbours.{neighbours_are, are_neighbours, run_first, twice_is}
+
+-- a test of some number of a range, from that of some element of a list
+pub any_listed : (p : ℕ → Bool) (k n : ℕ) → list_any p (range_with_len k n) ≡ any_of p k n
+unfolding any_of
+any_listed p k zero = refl
+any_listed p k (suc n) =
+    ap (λ (x : ℕ). p k || list_any p (range_with_len x n)) (add-one k) ∙ either (p k) _ _ (any_listed p (suc k) n)
+  where
+    either : (b x y : Bool) → x ≡ y → (b || x) ≡ cond b true y
+    either true x y e = refl
+    either false x y e = e
 
 second : (p q : Bool) → p ≡ true → q ≡ p && q
 second true q e = refl
@@ -58,15 +71,15 @@ module _ (num : SizeFields) (ranks order : List ℕ) (i k : ℕ) (e : k ≡ bask
 -- a run that is at fault; shared is the test of the two neighbours, a and b are their numbers
 
 module _ (num : SizeFields) (ranks order : List ℕ) (i : ℕ) (shared : Bool) (e : shared ≡ equal_neighbours ranks order i) where
-  pub run_apart : not shared ≡ true → false ≡ run_fault num ranks order i
+  pub run_apart : shared ≡ false → false ≡ run_fault num ranks order i
   unfolding run_fault
-  run_apart t = sym (false_left (equal_neighbours ranks order i) _ (sym e ∙ not-true shared t))
+  run_apart t = sym (false_left (equal_neighbours ranks order i) _ (sym e ∙ t))
 
-  module _ (t : not shared ≡ false) (a b : ℕ) (p : a ≡ num (get_or order i 0)) (q : b ≡ num (get_or order (i + 1) 0)) where
+  module _ (t : shared ≡ true) (a b : ℕ) (p : a ≡ num (get_or order i 0)) (q : b ≡ num (get_or order (i + 1) 0)) where
     by_numbers : cond (eqb a b) (too_many num ranks order i) true ≡ run_fault num ranks order i
     unfolding run_fault
     by_numbers =
-        ap₂ (λ (x y : ℕ). cond (eqb x y) (too_many num ranks order i) true) p q ∙ second (equal_neighbours ranks order i) _ (sym e ∙ not-false shared t)
+        ap₂ (λ (x y : ℕ). cond (eqb x y) (too_many num ranks order i) true) p q ∙ second (equal_neighbours ranks order i) _ (sym e ∙ t)
 
     pub run_differs : (a ≡ b → ⊥) → true ≡ run_fault num ranks order i
     run_differs ne = sym (pick_false (eqb a b) (too_many num ranks order i) true (ne_eqb a b ne)) ∙ by_numbers
@@ -77,13 +90,13 @@ module _ (num : SizeFields) (ranks order : List ℕ) (i : ℕ) (shared : Bool) (
 -- a key twice; behind is the test of the key
 
 module _ (key : ℕ → ℕ) (ranks order : List ℕ) (i : ℕ) (behind : Bool) (e : behind ≡ followed key order i) where
-  pub twice_apart : not behind ≡ true → false ≡ key_twice key ranks order i
+  pub twice_apart : behind ≡ false → false ≡ key_twice key ranks order i
   unfolding key_twice
-  twice_apart t = sym (false_left (followed key order i) _ (sym e ∙ not-true behind t))
+  twice_apart t = sym (false_left (followed key order i) _ (sym e ∙ t))
 
-  pub twice_test : not behind ≡ false → (r : Bool) → r ≡ equal_neighbours ranks order i → r ≡ key_twice key ranks order i
+  pub twice_test : behind ≡ true → (r : Bool) → r ≡ equal_neighbours ranks order i → r ≡ key_twice key ranks order i
   unfolding key_twice
-  twice_test t r x = x ∙ second (followed key order i) _ (sym e ∙ not-false behind t)
+  twice_test t r x = x ∙ second (followed key order i) _ (sym e ∙ t)
 
 -- ---- compare
 
@@ -133,7 +146,7 @@ module _ (image : List ℕ) (l n : ℕ) (ranks lows highs order₀ by-key₀ spa
           slot : (x : ℕ) → x < n → Slot n (get_or by_key x 0)
           slot x u = keyed.within (get_or by_key x 0) (at_in by_key x (omega (arith, keyed.size)))
 
-    pub compared_none : (num : SizeFields) (some : Bool) → some ≡ any_of (equal_neighbours ranks order) 0 (n - 1) → not some ≡ true
+    pub compared_none : (num : SizeFields) (some : Bool) → some ≡ any_of (equal_neighbours ranks order) 0 (n - 1) → some ≡ false
         → Compared num ranks lows highs n order by_key false
     compared_none num some e t =
         record {
@@ -148,7 +161,7 @@ module _ (image : List ℕ) (l n : ℕ) (ranks lows highs order₀ by-key₀ spa
         }
       where
         none : any_of (equal_neighbours ranks order) 0 (n - 1) ≡ false
-        none = sym e ∙ not-true some t
+        none = sym e ∙ t
 
     module _ (num : SizeFields) (runs : Bool) (r : runs ≡ any_of (run_fault num ranks order) 0 (n - 1)) where
       pub compared_runs : runs ≡ true → Compared num ranks lows highs n order by_key true

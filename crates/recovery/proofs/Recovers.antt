@@ -18,8 +18,8 @@ use Rattle.layout.specs.Record.{Layout}
 use Rattle.layout.specs.Content.{Table, contents_of, size_fields_of}
 use Rattle.table.specs.Complete.{settled, table_of}
 use Rattle.prelude.proofs.Refusals.{or_else_first, or_else_later, or_else_zero, taken_leaves, refused_keeps}
-use Rattle.table.specs.Table.{key_in, live, live_count, next_version}
-use Rattle.index.specs.Index.{Index, index_of, with_counts, head_of}
+use Rattle.table.specs.Table.{key_in, live, next_version}
+use Rattle.index.specs.Index.{index_of, with_counts, head_of}
 use Rattle.index.specs.Chained.{last_of}
 use Rattle.index.specs.inner.Build.{build, place_in, unbuilt, Ordered}
 use Rattle.index.specs.declared.State.{State}
@@ -27,8 +27,8 @@ use Rattle.layout.proofs.Lents.{lent_sized, lent_heads, lent_slots}
 use Rattle.stores.specs.Store.{Store}
 use Rattle.stores.specs.Invalidation.{invalidating_stores}
 use Rattle.recovery.specs.Invalidation.{void_slots, invalidations_of}
-use Rattle.recovery.specs.Recover.{Recovery, rebuilt_result, refused_result, recover_end, slots_fault, slots_named, recover_fault, recover_slot}
-use Rattle.recovery.specs.Recover.{recovered_index, newest_slot, recovered, recover_result}
+use Rattle.recovery.specs.Recover.{rebuilt_result, refused_result, recover_end, slots_fault, slots_named, recover_fault, recover_slot}
+use Rattle.recovery.specs.Recover.{recovered_index, recovered, recover_result}
 use Rattle.recovery.specs.inner.Decide.{live_place, Within}
 use Rattle.recovery.specs.inner.Judge.{Ready, Roomy, Judgeable, Arranged, Judgement, Left, answer_by}
 use Rattle.recovery.specs.inner.Report.{RecoveredWith}

@@ -15,7 +15,7 @@ use Rattle.prelude.specs.Filter.{filter}
 use Rattle.prelude.specs.Members.{Slot, slot_numbers}
 use Rattle.prelude.proofs.Lists.{AllSlots, slots-in, filter_none}
 use Rattle.sorting.specs.Sorted.{sorted}
-use Rattle.sorting.proofs.Order.{low, high, rising_sorted}
+use Rattle.sorting.proofs.Order.{rising_sorted}
 use Rattle.sorting.proofs.Positions.{stands, rising_at}
 use Rattle.stores.specs.Store.{Store}
 use Rattle.stores.specs.Invalidation.{invalidating_stores}

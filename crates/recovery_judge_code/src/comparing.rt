@@ -17,10 +17,7 @@ pub fn records_said(number: u64) -> usize
     requires { number < 256 }
     ensures result { (result ≡ basket_size number) × (1 ≤ result) × (result < 256) }
 {
-    if number == 0 {
-        return 1;
-    }
-    number as usize
+    number.max(1) as usize
 }
 
 // The number of the slot at position i of the order.
@@ -28,8 +25,7 @@ pub fn number_at(image: &[u8], l: usize, order: &[u32], i: usize, n: usize) -> u
     requires { OrderNumbered image.now l order.now n × (i < n) }
     ensures result { (result ≡ size_field_in l (word image.now) (get_or order.now i 0)) × (result < 256) }
 {
-    let x = order[i] as usize;
-    slot_number(image, l, x)
+    slot_number(image, l, order[i] as usize)
 }
 
 // Do two neighbours of the order have one rank, and are records?
@@ -38,10 +34,7 @@ fn is_shared(ranks: &[u64], order: &[u32], i: usize) -> bool
     ensures { result ≡ equal_neighbours ranks.now order.now i }
 {
     let a = entry_at(ranks, order, i);
-    if a < 2 {
-        return false;
-    }
-    a == entry_at(ranks, order, i + 1)
+    2 <= a && a == entry_at(ranks, order, i + 1)
 }
 
 // Do any two neighbours?
@@ -49,15 +42,7 @@ fn any_shared(ranks: &[u64], order: &[u32], n: usize) -> bool
     requires { (length order.now ≡ n) × (1 ≤ n) × (length ranks.now ≡ n + 1) × Within order.now n }
     ensures { result ≡ any_of (equal_neighbours ranks.now order.now) 0 (n - 1) }
 {
-    let end = n - 1;
-    let mut i = 0;
-    while i < end {
-        if is_shared(ranks, order, i) {
-            return true;
-        }
-        i += 1;
-    }
-    false
+    (0..n - 1).any(|i| is_shared(ranks, order, i))
 }
 
 // From position i on, does its run go on for more slots than the number of the slot says?
@@ -66,10 +51,7 @@ fn is_too_many(image: &[u8], l: usize, ranks: &[u64], order: &[u32], i: usize, n
     ensures { result ≡ too_many (size_field_in l (word image.now)) ranks.now order.now i }
 {
     let end = i + records_said(number_at(image, l, order, i, n));
-    if n <= end {
-        return false;
-    }
-    entry_at(ranks, order, end) == entry_at(ranks, order, i)
+    end < n && entry_at(ranks, order, end) == entry_at(ranks, order, i)
 }
 
 // Do the slots at positions i and i + 1 share a version and differ in their numbers, or are there too many of them?
@@ -77,13 +59,9 @@ fn is_run_fault(image: &[u8], l: usize, ranks: &[u64], order: &[u32], i: usize, 
     requires { OrderNumbered image.now l order.now n × (length ranks.now ≡ n + 1) × (i + 1 < n) }
     ensures { result ≡ run_fault (size_field_in l (word image.now)) ranks.now order.now i }
 {
-    if !is_shared(ranks, order, i) {
-        return false;
-    }
-    if number_at(image, l, order, i, n) != number_at(image, l, order, i + 1, n) {
-        return true;
-    }
-    is_too_many(image, l, ranks, order, i, n)
+    is_shared(ranks, order, i)
+        && (number_at(image, l, order, i, n) != number_at(image, l, order, i + 1, n)
+            || is_too_many(image, l, ranks, order, i, n))
 }
 
 // Do any two neighbours?
@@ -91,15 +69,7 @@ fn any_run_fault(image: &[u8], l: usize, ranks: &[u64], order: &[u32], n: usize)
     requires { OrderNumbered image.now l order.now n × (length ranks.now ≡ n + 1) × (1 ≤ n) }
     ensures { result ≡ any_of (run_fault (size_field_in l (word image.now)) ranks.now order.now) 0 (n - 1) }
 {
-    let end = n - 1;
-    let mut i = 0;
-    while i < end {
-        if is_run_fault(image, l, ranks, order, i, n) {
-            return true;
-        }
-        i += 1;
-    }
-    false
+    (0..n - 1).any(|i| is_run_fault(image, l, ranks, order, i, n))
 }
 
 // Do the slots at positions i and i + 1 of the order by key have one key and share a version?
@@ -115,10 +85,7 @@ fn is_key_twice(
         n × (i + 1 < n) }
     ensures { result ≡ key_twice (key_at lows.now highs.now) ranks.now order.now i }
 {
-    if !is_followed(lows, highs, order, i, n) {
-        return false;
-    }
-    is_shared(ranks, order, i)
+    is_followed(lows, highs, order, i, n) && is_shared(ranks, order, i)
 }
 
 // Do any two neighbours?
@@ -127,15 +94,7 @@ fn any_key_twice(ranks: &[u64], lows: &[u64], highs: &[u64], order: &[u32], n: u
         n × (1 ≤ n) }
     ensures { result ≡ any_of (key_twice (key_at lows.now highs.now) ranks.now order.now) 0 (n - 1) }
 {
-    let end = n - 1;
-    let mut i = 0;
-    while i < end {
-        if is_key_twice(ranks, lows, highs, order, i, n) {
-            return true;
-        }
-        i += 1;
-    }
-    false
+    (0..n - 1).any(|i| is_key_twice(ranks, lows, highs, order, i, n))
 }
 
 // The slots in order by rank and by key, and whether 7 is found along these orders. Where no two slots share a version
@@ -157,11 +116,7 @@ pub fn compare(
 {
     order_by_rank(ranks, order, scratch);
     order_by_key(lows, highs, order, by_key, scratch);
-    if !any_shared(ranks, order, n) {
-        return false;
-    }
-    if any_run_fault(image, l, ranks, order, n) {
-        return true;
-    }
-    any_key_twice(ranks, lows, highs, by_key, n)
+    any_shared(ranks, order, n)
+        && (any_run_fault(image, l, ranks, order, n)
+            || any_key_twice(ranks, lows, highs, by_key, n))
 }

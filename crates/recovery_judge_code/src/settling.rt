@@ -22,10 +22,7 @@ fn is_full(image: &[u8], l: usize, ranks: &[u64], order: &[u32], i: usize, n: us
     ensures { result ≡ full_run (size_field_in l (word image.now)) ranks.now order.now i }
 {
     let size = records_said(number_at(image, l, order, i, n));
-    if i + 1 < size {
-        return false;
-    }
-    entry_at(ranks, order, i + 1 - size) == entry_at(ranks, order, i)
+    size <= i + 1 && entry_at(ranks, order, i + 1 - size) == entry_at(ranks, order, i)
 }
 
 // Judging from the end of the order down: the rank of the first slot with a full run, 2 where there is none. Slots
@@ -34,9 +31,7 @@ pub fn judged_rank(image: &[u8], l: usize, ranks: &[u64], order: &[u32], n: usiz
     requires { OrderNumbered image.now l order.now n × (length ranks.now ≡ n + 1) }
     ensures result { result ≡ judged_rank (size_field_in l (word image.now)) ranks.now order.now n }
 {
-    let mut i = n;
-    while 0 < i {
-        i -= 1;
+    for i in (0..n).rev() {
         let rank = entry_at(ranks, order, i);
         if rank < 2 {
             return 2;
@@ -64,15 +59,16 @@ fn with_store(opened: Invalidations, word: u32, mark: u64) -> Invalidations
     requires { opened.count < 65536 }
     ensures { result ≡ with_store opened (record { word = word; value = mark }) }
 {
-    let count = opened.count + 1;
-    let mut at = opened.at;
-    let mut value = opened.value;
     let i = opened.count as usize;
+    let mut all = Invalidations {
+        count: opened.count + 1,
+        ..opened
+    };
     if i < 8 {
-        at[i] = word;
-        value[i] = mark;
+        all.at[i] = word;
+        all.value[i] = mark;
     }
-    Invalidations { count, at, value }
+    all
 }
 
 // The stores that open the slots of a rank above the limit, by slot.
@@ -82,13 +78,11 @@ fn invalidating_stores(image: &[u8], ranks: &[u64], n: usize, limit: u64) -> Inv
         ≡ invalidations_of (invalidating_stores (word image.now) (filter (λ s. ltb limit (get_or ranks.now s 0)) (slot_numbers n))) }
 {
     let mut opened = no_invalidations();
-    let mut s = 1;
-    while s <= n {
+    for s in 1..=n {
         if limit < ranks[s] {
             let mark = first_word(read_word(image, 16 * s + 7));
             opened = with_store(opened, 16 * s as u32, mark);
         }
-        s += 1;
     }
     opened
 }
@@ -98,13 +92,11 @@ fn clear_above(ranks: &mut [u64], places: &mut [u32], n: usize, limit: u64)
     requires { (length ranks.old ≡ n + 1) × (length places.old ≡ n + 1) × (n ≤ 65535) }
     ensures { Cleared limit n ranks.old places.old ranks.new places.new }
 {
-    let mut s = 1;
-    while s <= n {
+    for s in 1..=n {
         if limit < ranks[s] {
             ranks[s] = 0;
             places[s] = 0;
         }
-        s += 1;
     }
 }
 

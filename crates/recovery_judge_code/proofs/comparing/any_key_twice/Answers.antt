@@ -1,28 +1,18 @@
 -- Answers of `recovery_judge_code::comparing::any_key_twice`.
+use mathlib.Core.Path.{◌∙◌}
 use Prim.Native.Nat.{◌-◌}
 use native.Mathlib.Omega.{arith}
 use borrow.Author.Rules.{rules}
-use Rattle.prelude.proofs.Any.{Going, any_start, any_hit, any_next, any_end}
+use borrow.Author.Tests.{tests}
+use Rattle.std.proofs.lemmas.Iterator.{YieldsList-from_range}
+use Rattle.std.proofs.lemmas.Iterator.Search.{any_from_yields_List}
 use Rattle.recovery.specs.inner.Scan.{key_at}
 use Rattle.recovery.specs.inner.Decide.{key_twice}
+use Rattle.recovery.proofs.Compares.{any_listed}
 use Rattle.recovery_judge_code.proofs.comparing.any_key_twice.Goals as goal
-
-pub loop-i-init : goal.loop-i-init
-loop-i-init c =
-    any_start (omega arith)
-
-pub is_key_twice-requires : goal.is_key_twice-requires
-is_key_twice-requires c =
-    (c.requires.0, c.requires.1, c.requires.2, c.requires.3, c.requires.4, omega (arith, c.loop-i-test.true))
-
-pub returns-then-is_key_twice : goal.returns-then-is_key_twice
-returns-then-is_key_twice c =
-    any_hit c.loop-i.invariant c.loop-i-test.true c.is_key_twice.ensures c.if-is_key_twice.true
-
-pub loop-i-preserved : goal.loop-i-preserved
-loop-i-preserved c =
-    any_next c.loop-i.invariant c.loop-i-test.true c.is_key_twice.ensures c.if-is_key_twice.false
 
 pub returns : goal.returns
 returns c =
-    any_end c.loop-i.invariant c.loop-i-test.false
+    any_from_yields_List (key_twice (key_at c.args.lows.now c.args.highs.now) c.args.ranks.now c.args.order.now) _ _ c.any.result c.any.ensures.ran
+    (YieldsList-from_range 0 (c.args.n - 1) (c.args.n - 1) (cc) (omega arith)) (λ x b q k. search (rules, tests))
+    ∙ any_listed (key_twice (key_at c.args.lows.now c.args.highs.now) c.args.ranks.now c.args.order.now) 0 (c.args.n - 1)

@@ -1,7 +1,6 @@
 -- Answers of `recovery_judge_code::judging::judge_slots`.
 use mathlib.Core.Path.{refl, ◌∙◌}
 use native.Mathlib.Omega.{arith}
-use borrow.Author.Rules.{rules}
 use Rattle.recovery.proofs.Judges.{judged, judge_numbered, decide_ready, broken_fits}
 use Rattle.recovery_judge_code.proofs.judging.judge_slots.Goals as goal
 
