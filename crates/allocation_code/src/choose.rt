@@ -72,12 +72,16 @@ fn may_take_after(
         return true;
     }
     let version = valid_version(image, s);
-    if top <= version {
-        return false;
-    }
-    let low = slot_low(image, s);
-    let high = slot_high(image, l, s);
-    !is_older_chosen(image, l, slots, got, low, high, version)
+    version < top
+        && !is_older_chosen(
+            image,
+            l,
+            slots,
+            got,
+            slot_low(image, s),
+            slot_high(image, l, s),
+            version,
+        )
 }
 
 // The slot is taken or passed over, by the version that p has.

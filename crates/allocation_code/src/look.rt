@@ -17,13 +17,15 @@ fn is_older_left(image: &[u8], l: usize, s: usize, t: usize) -> bool
     requires { SlotInside image.now l s × SlotInside image.now l t }
     ensures { result ≡ older_left (contents_of l image.now) s t }
 {
-    if slot_kind(image, l, s) != 2 {
-        return false;
-    }
-    let version = valid_version(image, s);
-    let low = slot_low(image, s);
-    let high = slot_high(image, l, s);
-    is_older(image, l, t, low, high, version)
+    slot_kind(image, l, s) == 2
+        && is_older(
+            image,
+            l,
+            t,
+            slot_low(image, s),
+            slot_high(image, l, s),
+            valid_version(image, s),
+        )
 }
 
 // Is one of the first `got` slots?
@@ -73,13 +75,9 @@ fn is_left(
     requires { SlotInside image.now l t × ChosenInside image.now slots got × Marked (word image.now) slots marks.now got }
     ensures { result ≡ false → ClearAt l image.now slots got known strict t }
 {
-    if is_version_above(image, t, known, strict) {
-        return true;
-    }
-    if marks[(slot_low(image, t) % 4096) as usize] == 0 {
-        return false;
-    }
-    is_older_left_in(image, l, slots, got, t)
+    is_version_above(image, t, known, strict)
+        || marks[(slot_low(image, t) % 4096) as usize] != 0
+            && is_older_left_in(image, l, slots, got, t)
 }
 
 // Does any of the slots 1 to n?

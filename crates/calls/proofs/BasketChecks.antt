@@ -13,7 +13,6 @@ use Rattle.std.proofs.lemmas.List.{get_or-take, get_or_default, length-take}
 use lib.Seq.{get_or-set_same, get_or-set_other}
 use borrow.Author.Tests.{eq-eqb, ne_eqb, eqb-true, eqb-false, ltb-false, lt-ltb, le-ltb}
 use Rattle.prelude.specs.Refusal.{refuse_if, or_else}
-use Rattle.prelude.proofs.Choice.{pick_true, pick_false}
 use Rattle.prelude.proofs.Refusals.{refuse_if-true, refuse_if-false, refuse_if_zero, or_else_first, or_else_later, or_else_zero}
 use Rattle.prelude.proofs.Tabulate.{tabulate-length}
 use Rattle.layout.specs.Record.{key_with, limit}
@@ -183,35 +182,17 @@ among_listed l items values key from (suc n) =
     (among_listed l items values key (from + 1) n ∙ ap (λ (k : ℕ). among key (changes_from l items values k n)) next)
 
 -- any_twice
-pub record Pairing (l : ℕ) (items : List BasketItem) (count i : ℕ) : Type 0 where
-  pub rest : (values : List ℕ) → any_twice (changes_from l items values i (count - i)) ≡ any_twice (changes_of l count items values)
-
-module _ (l : ℕ) (items : List BasketItem) (count : ℕ) where
-  pub pairs_start : Pairing l items count 0
-  pairs_start = record { rest = λ values. ap any_twice (changes_start l items values count) }
-
-  module _ (i : ℕ) (w : Pairing l items count i) where
-    module _ (h : i < count) (high : ℕ) (eh : high ≡ high_in l (item_at items i).high) (b : Bool)
-        (e : (values : List ℕ) → b ≡ among (key_with (item_at items i).low high) (changes_from l items values (i + 1) (count - (i + 1)))) where
-      pair : (values : List ℕ) → any_twice (changes_from l items values i (count - i))
-          ≡ cond (among (item_key_at l items i) (changes_from l items values (i + 1) (count - (i + 1)))) true
-          (any_twice (changes_from l items values (i + 1) (count - (i + 1))))
-      unfolding any_twice change_at
-      pair values = ap any_twice (changes_step l items values count i h)
-
-      there : (values : List ℕ) → b ≡ among (item_key_at l items i) (changes_from l items values (i + 1) (count - (i + 1)))
-      there values = e values ∙ ap (λ (k : ℕ). among k (changes_from l items values (i + 1) (count - (i + 1)))) (key-at l items i high eh)
-
-      pub pair_hit : b ≡ true → (values : List ℕ) → true ≡ any_twice (changes_of l count items values)
-      pair_hit q values = sym (pick_true (among (item_key_at l items i) _) _ _ (sym (there values) ∙ q)) ∙ sym (pair values) ∙ w.rest values
-
-      pub pair_on : b ≡ false → Pairing l items count (i + 1)
-      pair_on q =
-          record { rest = λ values. sym (pick_false (among (item_key_at l items i) _) _ _ (sym (there values) ∙ q)) ∙ sym (pair values) ∙ w.rest values }
-
-    pub pair_end : count ≤ i → (values : List ℕ) → false ≡ any_twice (changes_of l count items values)
-    unfolding any_twice
-    pair_end h values = sym (ap any_twice (changes_end l items values count i h)) ∙ w.rest values
+pub twice_listed : (l : ℕ) (items : List BasketItem) (values : List ℕ) (count n i : ℕ) → i + n ≡ count
+    → list_any (λ (k : ℕ). among (item_key_at l items k) (changes_from l items values (k + 1) (count - (k + 1)))) (range_with_len i n)
+    ≡ any_twice (changes_from l items values i n)
+unfolding any_twice changes_from change_at
+twice_listed l items values count zero i e = refl
+twice_listed l items values count (suc n) i e =
+    let next : i + 1 ≡ suc i = omega arith in
+    let left : count - (i + 1) ≡ n = omega arith in
+    either_is (among (item_key_at l items i) (changes_from l items values (i + 1) (count - (i + 1)))) _
+    ∙ ap₂ (λ (a b : Bool). cond a true b) (ap₂ (λ (x y : ℕ). among (item_key_at l items i) (changes_from l items values x y)) next left)
+    (twice_listed l items values count n (i + 1) (omega arith) ∙ ap (λ (x : ℕ). any_twice (changes_from l items values x n)) next)
 
 -- ---- 26, 27, 13
 

@@ -7,7 +7,7 @@ use native.Mathlib.Omega.{arith}
 use lib.Dec.{eqb}
 use lib.ListN.{length}
 use borrow.Author.Tests.{eqb-false}
-use Rattle.prelude.specs.Answer.{refused, refusal_in}
+use Rattle.prelude.specs.Answer.{refusal_in}
 use Rattle.prelude.specs.Refusal.{or_else}
 use Rattle.prelude.proofs.Refusals.{refuse_if_zero, or_else_zero, or_else_later}
 use Rattle.layout.specs.Size.{slots_in}

@@ -1,11 +1,11 @@
 -- What insert, replace and remove write: a record into the first reuse slot, and the index. Assumes nothing.
-use mathlib.Core.Path.{◌≡◌, sym, ap, ap₂, ◌∙◌, subst}
+use mathlib.Core.Path.{◌≡◌, sym, ap₂, subst}
 use mathlib.Core.List.{List, [], ◌∷◌}
 use Prim.Native.Nat.{ℕ, ◌+◌, ◌≤◌}
 use native.Mathlib.Omega.{arith}
 use lib.ListN.{length}
 use Rattle.words.specs.Word.{word}
-use Rattle.prelude.specs.Answer.{Answer, gives}
+use Rattle.prelude.specs.Answer.{gives}
 use Rattle.layout.specs.Record.{key_with}
 use Rattle.stores.specs.Store.{Store, zipped}
 use Rattle.stores.specs.Written.{run, line_stores, record_stores}
@@ -14,7 +14,6 @@ use Rattle.index.specs.inner.Parts.{WritesInside, PlaceInside}
 use Rattle.index.specs.declared.Place.{Place}
 use Rattle.index.specs.declared.State.{State}
 use Rattle.calls.specs.Change.{stores_after, buffers_after, changed}
-use Rattle.calls.specs.Result.{CallResult}
 use Rattle.index.specs.declared.Lookup.{Lookup}
 use Rattle.index.specs.declared.Lookup.TheVariants.{Accepted}
 use Rattle.calls.specs.inner.Lookup.{Writable, AcceptedAt, WriteReady}

@@ -17,7 +17,6 @@ use Rattle.index.specs.Walk.{search, chain_fault, compared_in}
 use Rattle.calls.specs.Compared.{compared_after, key_compared}
 use Rattle.allocation.specs.Allocation.{allocation_by}
 use Rattle.index.specs.Change.{take_first}
-use Rattle.index.specs.declared.State.{State}
 use Rattle.index.specs.declared.Mode.{Mode}
 use Rattle.index.specs.declared.Place.{Place}
 use Rattle.index.specs.declared.Place.TheVariants.{Held, NotHeld}

@@ -6,9 +6,8 @@ use Prim.Native.Nat.{ℕ, zero, suc}
 use lib.ListN.{length}
 use Rattle.prelude.specs.Answer.{refusal_in}
 use Rattle.prelude.specs.Refusal.{unless_refused}
-use Rattle.index.specs.Index.{Index, index_of}
+use Rattle.index.specs.Index.{Index}
 use Rattle.index.specs.Walk.{search}
-use Rattle.index.specs.declared.State.{State}
 use Rattle.index.specs.declared.Mode.{Mode}
 use Rattle.index.specs.declared.Found.{Found}
 use Rattle.index.specs.declared.Found.TheVariants.{At, Missing, BadChain}

@@ -12,7 +12,6 @@ use Rattle.index.specs.Basket.{Item, taken_slots, basket_index}
 use Rattle.index.specs.declared.State.{State}
 use Rattle.index.specs.declared.Action.{Action}
 use Rattle.index.specs.declared.Action.TheVariants.{Write, Remove}
-use Rattle.index.specs.declared.Mode.TheVariants.{Insert, Replace}
 use Rattle.index.specs.declared.Found.{Found}
 use Rattle.index.specs.declared.Found.TheVariants.{At, Missing, BadChain}
 use Rattle.allocation.specs.Allocation.{allocation_by_rule, allocation_chosen_by}

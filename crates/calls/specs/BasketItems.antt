@@ -1,6 +1,6 @@
 -- A basket as it is given. Document 02, A.7: "A basket names 1 to 8 distinct keys, each to be inserted, replaced or
 -- removed."
-use Rattle.std.specs.Prelude.{cond, List, [], ◌∷◌, ℕ, zero, suc, ◌+◌, ◌*◌, eqb, length, get_or}
+use Rattle.std.specs.Prelude.{cond, List, [], ◌∷◌, ℕ, zero, suc, ◌+◌, ◌*◌, eqb, get_or}
 use Rattle.prelude.specs.Range.{tabulate}
 use Rattle.layout.specs.Record.{key_with}
 use Rattle.index.specs.declared.Action.{Action}

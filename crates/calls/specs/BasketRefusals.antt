@@ -7,7 +7,6 @@ use Rattle.layout.specs.Header.{lent_fault}
 use Rattle.index.specs.Walk.{search, chain_fault}
 use Rattle.index.specs.declared.Action.{Action}
 use Rattle.index.specs.declared.Action.TheVariants.{Write, Remove}
-use Rattle.index.specs.declared.Mode.TheVariants.{Insert, Replace}
 use Rattle.index.specs.declared.Found.{Found}
 use Rattle.allocation.specs.Allocation.{allocation_by}
 use Rattle.index.specs.Change.{is_found, key_fault, inserts_of}

@@ -2,7 +2,7 @@
 -- document 02, A.2: "Put is split in two: insert for a key not held, replace for one that is", and A.7: 28 "in place of
 -- 12". None of them writes to the image. Each is of one of two families: calls for any index, and calls for the owner
 -- of an index, which are ours. The taking rule, which says what slots may be taken, is table/specs/Takeable `may_take`.
-use Rattle.std.specs.Prelude.{Bool, true, false, List, [], ◌∷◌, ℕ, ◌+◌, ◌-◌, ltb, length, get_or}
+use Rattle.std.specs.Prelude.{Bool, false, List, [], ◌∷◌, ℕ, ◌+◌, ◌-◌, ltb, length, get_or}
 use Rattle.words.specs.Word.{word}
 use Rattle.prelude.specs.Refusal.{refuse_if, or_else, unless_refused}
 use Rattle.prelude.specs.Answer.{Answer, gives, absent, refused}
@@ -20,7 +20,6 @@ use Rattle.index.specs.Basket.{take_slot}
 use Rattle.allocation.specs.Allocation.{allocation_by_rule, allocation_by}
 use Rattle.index.specs.declared.State.{State}
 use Rattle.index.specs.declared.Mode.{Mode}
-use Rattle.index.specs.declared.Mode.TheVariants.{Insert, Replace}
 use Rattle.index.specs.declared.Found.{Found}
 use Rattle.index.specs.declared.Found.TheVariants.{At, Missing, BadChain}
 use Rattle.calls.specs.Result.{CallResult, unchanged}

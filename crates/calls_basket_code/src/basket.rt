@@ -10,7 +10,7 @@ ghost use Rattle.calls.specs.BasketItems.{changes_of};
 ghost use Rattle.calls.specs.BasketBuffers.{basket_end, buffers_after_lists};
 ghost use Rattle.calls.specs.inner.Basket.{BasketReady};
 
-use calls::{BasketAnswer, BasketItem, BasketOutcome};
+use calls::{BasketAnswer, BasketItem, BasketOutcome, Plan};
 use calls_basket_plan_code::plan::plan;
 use calls_basket_plan_code::totals::totals_of;
 use calls_basket_write_code::links::change_index;
@@ -65,11 +65,10 @@ fn store_basket(
         },
         slots,
         state: State {
-            first: rest.first,
-            last: rest.last,
             live: state.live + totals.inserts - totals.removes,
             version: state.version + 1,
             newest: slots[0],
+            ..rest
         },
     }
 }
@@ -113,9 +112,12 @@ pub fn basket_in(
             state,
         };
     }
-    let olds = p.olds;
-    let slots = p.slots;
-    let prevs = p.prevs;
+    let Plan {
+        olds,
+        slots,
+        prevs,
+        ..
+    } = p;
     store_basket(
         image, l, heads, next, state, count, items, values, olds, slots, prevs, at, words, own,
     )

@@ -40,14 +40,10 @@ fn any_twice(l: usize, items: [BasketItem; 8], count: usize) -> bool
     requires { count ≤ 8 }
     ensures { (values : List ℕ) → result ≡ any_twice (changes_of l count items values) }
 {
-    for i in 0..count {
+    (0..count).any(|i| {
         let item = items[i];
-        let high = high_in(l, item.high);
-        if is_among(l, items, i + 1, count, item.low, high) {
-            return true;
-        }
-    }
-    false
+        is_among(l, items, i + 1, count, item.low, high_in(l, item.high))
+    })
 }
 
 // 26 by the count of keys, else 0.

@@ -26,13 +26,10 @@ fn link_all(
         ≡ link_all n (index_of heads.old next.old state) (items_from l (length heads.old) items olds slots 0 count) }
 {
     let mut rest = state;
-    let mut j = 0;
-    while j < count {
+    for j in 0..count {
         let item = items[j];
-        let action = item.action;
         let h = head_of(item.low, heads.len());
-        rest = link_item(heads, next, n, rest, action, h, olds[j], slots[j]);
-        j += 1;
+        rest = link_item(heads, next, n, rest, item.action, h, olds[j], slots[j]);
     }
     rest
 }

@@ -37,10 +37,7 @@ fn size_by(action: Action, size: usize) -> usize
 fn number_for(count: usize) -> u64
     ensures { result ≡ size_field_for count }
 {
-    if count == 1 {
-        return 0;
-    }
-    count as u64
+    if count == 1 { 0 } else { count as u64 }
 }
 
 // The stores of the records of so many keys fill the fronts of the two lists.
@@ -64,14 +61,12 @@ pub fn fill_basket_stores(
         words.old) }
 {
     let number = number_for(count);
-    let mut j = 0;
-    while j < count {
+    for j in 0..count {
         let item = items[j];
         let high = high_in(l, item.high);
-        let action = item.action;
-        let kind = kind_by(action);
+        let kind = kind_by(item.action);
         let from = 80 * j;
-        let end = from + size_by(action, item.length);
+        let end = from + size_by(item.action, item.length);
         let value = &values[from..end];
         record_stores_at(
             image,
@@ -87,6 +82,5 @@ pub fn fill_basket_stores(
             words,
             16 * j,
         );
-        j += 1;
     }
 }

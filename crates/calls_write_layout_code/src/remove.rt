@@ -43,7 +43,7 @@ pub fn remove_in(
             moved: 0,
         },
         Lookup::Accepted { place, compared } => match place {
-            Place::NotHeld { prev: _ } => Change {
+            Place::NotHeld { .. } => Change {
                 outcome: Outcome::Absent,
                 state,
                 compared,

@@ -6,7 +6,7 @@ use Rattle.layout.specs.Record.{Layout, limit}
 use Rattle.layout.specs.inner.Sized.{Sized}
 use Rattle.stores.specs.Store.{zipped}
 use Rattle.stores.specs.Basket.{BasketRecord}
-use Rattle.index.specs.Index.{Index, index_of, head_of}
+use Rattle.index.specs.Index.{index_of, head_of}
 use Rattle.index.specs.Walk.{search, chain_fault}
 use Rattle.index.specs.Change.{is_found}
 use Rattle.index.specs.Allocation.{Allocation, taken}
@@ -15,7 +15,6 @@ use Rattle.index.specs.inner.Basket.{takens_from}
 use Rattle.index.specs.declared.State.{State}
 use Rattle.index.specs.declared.Action.{Action}
 use Rattle.index.specs.declared.Action.TheVariants.{Write, Remove}
-use Rattle.index.specs.declared.Mode.TheVariants.{Insert, Replace}
 use Rattle.index.specs.declared.Found.{Found}
 use Rattle.allocation.specs.Allocation.{allocation_by, allocation_chosen_by}
 use Rattle.allocation.specs.declared.Choice.{Choice}

@@ -1,31 +1,24 @@
 -- Answers of `calls_basket_plan_code::given::any_twice`.
-use Prim.Native.Nat.{◌-◌}
+use mathlib.Core.Path.{refl, ◌≡◌, ◌∙◌}
+use mathlib.Core.Bool.{Bool, true, false}
+use Prim.Native.Nat.{ℕ, ◌+◌, ◌-◌}
 use native.Mathlib.Omega.{arith}
-use Rattle.calls.specs.BasketItems.{item_at}
-use Rattle.calls.proofs.BasketChecks.{Pairing, pairs_start, pair_hit, pair_on, pair_end}
 use borrow.Author.Rules.{rules}
+use Rattle.std.specs.List.{range_with_len}
+use Rattle.std.proofs.lemmas.Iterator.{cases_from_any, YieldsList-from_range}
+use Rattle.allocation.proofs.Tested.{any_by_cases}
+use Rattle.calls.specs.BasketItems.{item_at, item_key, changes_from, changes_of}
+use Rattle.calls.specs.BasketRefusals.{among}
+use Rattle.calls.specs.inner.Basket.{item_key_at}
+use Rattle.calls.proofs.BasketChecks.{twice_listed}
 use Rattle.calls_basket_plan_code.proofs.given.any_twice.Goals as goal
 
-pub loop-i-init : goal.loop-i-init
-loop-i-init c =
-    pairs_start _ _ _
-
-pub is_among-requires : goal.is_among-requires
-is_among-requires c =
-    c.requires
-
-pub returns-then-is_among : goal.returns-then-is_among
-unfolding item_at
-returns-then-is_among c =
-    pair_hit _ _ _ _ c.loop-i.invariant c.loop-i-test.true _ c.high_in-high.ensures.result _ c.is_among.ensures
-    c.if-is_among.true
-
-pub loop-i-preserved : goal.loop-i-preserved
-unfolding item_at
-loop-i-preserved c =
-    pair_on _ _ _ _ c.loop-i.invariant c.loop-i-test.true _ c.high_in-high.ensures.result _ c.is_among.ensures
-    c.if-is_among.false
-
 pub returns : goal.returns
+unfolding item_at item_key changes_of
 returns c =
-    pair_end _ _ _ _ c.loop-i.invariant c.loop-i-test.false
+    λ values.
+    let p : ℕ → Bool = λ i. among (item_key_at c.args.l c.args.items i) (changes_from c.args.l c.args.items values (i + 1) (c.args.count - (i + 1))) in
+    any_by_cases p (range_with_len 0 c.args.count) _
+    (cases_from_any _ _ _ (λ i. p i ≡ true) (λ i. p i ≡ false) c.any.ensures.ran
+    (YieldsList-from_range 0 c.args.count c.args.count refl (omega arith)) (λ i q k. search rules) (λ i q k. search rules))
+    ∙ twice_listed c.args.l c.args.items values c.args.count c.args.count 0 (omega arith)

@@ -10,33 +10,9 @@ pub loop-j-init : goal.loop-j-init
 loop-j-init c =
     linking_starts _ _ _ _ _ _ _ _ c.requires
 
-pub offset_bounds-items-j : goal.offset_bounds-items-j
-offset_bounds-items-j c =
-    omega (arith, c.loop-j-test.true, c.requires.few)
-
-pub bounds-items-j : goal.bounds-items-j
-bounds-items-j c =
-    omega (arith, c.loop-j-test.true, c.requires.few)
-
 pub head_of-h-requires : goal.head_of-h-requires
 head_of-h-requires c =
     omega (arith, c.requires.some_head, c.loop-j.invariant.heads_size)
-
-pub offset_bounds-olds-j : goal.offset_bounds-olds-j
-offset_bounds-olds-j c =
-    omega (arith, c.loop-j-test.true, c.requires.few)
-
-pub bounds-olds-j : goal.bounds-olds-j
-bounds-olds-j c =
-    omega (arith, c.loop-j-test.true, c.requires.few)
-
-pub offset_bounds-slots-j : goal.offset_bounds-slots-j
-offset_bounds-slots-j c =
-    omega (arith, c.loop-j-test.true, c.requires.few)
-
-pub bounds-slots-j : goal.bounds-slots-j
-bounds-slots-j c =
-    omega (arith, c.loop-j-test.true, c.requires.few)
 
 pub link_item-rest-requires : goal.link_item-rest-requires
 link_item-rest-requires c =
@@ -47,14 +23,6 @@ link_item-rest-requires c =
       old-in = c.requires.old-in _ c.loop-j-test.true;
       slot_in = c.requires.slot_in _ c.loop-j-test.true;
     }
-
-pub overflow_add-j : goal.overflow_add-j
-overflow_add-j c =
-    omega (arith, c.loop-j-test.true, c.requires.few)
-
-pub loop-j-smaller : goal.loop-j-smaller
-loop-j-smaller c =
-    omega (arith, c.loop-j-test.true)
 
 pub loop-j-preserved : goal.loop-j-preserved
 unfolding item_at

@@ -1,4 +1,4 @@
--- Invariants and measures of `calls_basket_write_code::links::link_all`.
+-- Invariants of `calls_basket_write_code::links::link_all`.
 use Prim.Native.Nat.{◌-◌, ◌<◌}
 use native.Mathlib.Omega.{arith}
 use mathlib.Core.Path.{◌∙◌}
@@ -10,6 +10,3 @@ use Rattle.calls_basket_write_code.proofs.links.link_all.Given as goal
 abbrev pub invariant-loop-j : goal.invariant-loop-j
 invariant-loop-j l =
     Linking l.n l.items l.count l.olds l.slots l.initial.heads l.initial.next l.initial.rest l.heads l.next l.rest l.j
-
-abbrev pub decreases-loop-j : goal.decreases-loop-j
-decreases-loop-j l = l.count - l.j

@@ -13,18 +13,6 @@ pub loop-j-init : goal.loop-j-init
 loop-j-init c =
     (c.number_for-number.ensures, storing_starts _ _ _ _ _ _ _ _ _)
 
-pub offset_bounds-items-j : goal.offset_bounds-items-j
-offset_bounds-items-j c =
-    omega (arith, c.loop-j-test.true, c.requires.few)
-
-pub bounds-items-j : goal.bounds-items-j
-bounds-items-j c =
-    omega (arith, c.loop-j-test.true, c.requires.few)
-
-pub overflow_mul-from : goal.overflow_mul-from
-overflow_mul-from c =
-    omega (arith, c.loop-j-test.true, c.requires.few)
-
 pub overflow_add-end : goal.overflow_add-end
 unfolding item_at
 overflow_add-end c =
@@ -44,18 +32,6 @@ unfolding item_at
 slice_bounds-value-end c =
     search (rules, size_within _ _ _ _ _ _ _ _ c.requires _ c.loop-j-test.true _ c.size_by.ensures)
 
-pub offset_bounds-slots-j : goal.offset_bounds-slots-j
-offset_bounds-slots-j c =
-    omega (arith, c.loop-j-test.true, c.requires.few)
-
-pub bounds-slots-j : goal.bounds-slots-j
-bounds-slots-j c =
-    omega (arith, c.loop-j-test.true, c.requires.few)
-
-pub overflow_mul-j : goal.overflow_mul-j
-overflow_mul-j c =
-    omega (arith, c.loop-j-test.true, c.requires.few)
-
 pub record_stores_at-requires : goal.record_stores_at-requires
 unfolding item_at
 record_stores_at-requires c = (
@@ -66,14 +42,6 @@ record_stores_at-requires c = (
   omega (arith, c.loop-j.invariant.1.fill.ats.size, c.requires.at_room, c.loop-j-test.true),
   omega (arith, c.loop-j.invariant.1.fill.vals.size, c.requires.words_room, c.loop-j-test.true),
 )
-
-pub overflow_add-j : goal.overflow_add-j
-overflow_add-j c =
-    omega (arith, c.loop-j-test.true, c.requires.few)
-
-pub loop-j-smaller : goal.loop-j-smaller
-loop-j-smaller c =
-    omega (arith, c.loop-j-test.true)
 
 pub loop-j-preserved : goal.loop-j-preserved
 unfolding item_at

@@ -1,4 +1,4 @@
--- Invariants and measures of `calls_basket_write_code::records::fill_basket_stores`.
+-- Invariants of `calls_basket_write_code::records::fill_basket_stores`.
 use mathlib.Core.Path.{◌≡◌}
 use Prim.Native.Nat.{◌+◌, ◌-◌, ◌*◌, ◌≤◌, ◌<◌}
 use native.Mathlib.Omega.{arith}
@@ -13,6 +13,3 @@ use Rattle.calls_basket_write_code.proofs.records.fill_basket_stores.Given as go
 abbrev pub invariant-loop-j : goal.invariant-loop-j
 invariant-loop-j l =
     (l.number ≡ size_field_for l.count) × Storing l.l l.image l.version l.count l.items l.values l.slots l.initial.at l.initial.words l.at l.words l.j
-
-abbrev pub decreases-loop-j : goal.decreases-loop-j
-decreases-loop-j l = l.count - l.j

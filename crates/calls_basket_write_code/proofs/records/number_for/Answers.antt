@@ -8,7 +8,7 @@ unfolding size_field_for
 returns-then-count-eq1 c =
     search tests
 
-pub returns : goal.returns
+pub returns-else-count-eq1 : goal.returns-else-count-eq1
 unfolding size_field_for
-returns c =
+returns-else-count-eq1 c =
     search tests
