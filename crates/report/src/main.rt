@@ -2,11 +2,10 @@
 // totals. Each second a line on standard error says how many images were read.
 #![tactic(auto)]
 
-ghost use Rattle.std.specs.Prelude.{◌≡◌, ◌+◌, ◌≤◌, length};
-ghost use Rattle.report_text.specs.declared.FrontAnswer.TheVariants.{Reported};
+ghost use Rattle.std.specs.Prelude.{◌≡◌, Some, ◌+◌, ◌≤◌, length};
 ghost use Rattle.report_text.specs.inner.Images.{Buffers, IsReported};
 
-use report_text::{Block, FrontAnswer, FrontReport, ReportProgress};
+use report_text::{Block, FrontReport, ReportProgress};
 use report_text_code::{report_front, report_last, start_report};
 use show::input::read_some;
 use show::progress::{counted, seconds};
@@ -33,13 +32,13 @@ fn read_more(stdin: Stdin, input: &mut [u8], have: usize) -> usize
 }
 
 // What was reported, of an answer that is no refusal.
-fn reported(answer: FrontAnswer, progress: ReportProgress) -> FrontReport
+fn reported(answer: Option<FrontReport>, progress: ReportProgress) -> FrontReport
     requires { IsReported answer }
-    ensures result { answer ≡ Reported result }
+    ensures result { answer ≡ Some result }
 {
     match answer {
-        FrontAnswer::Reported(front) => front,
-        FrontAnswer::Refused => FrontReport {
+        Some(front) => front,
+        None => FrontReport {
             block: Block {
                 progress,
                 used: 0,

@@ -2,6 +2,7 @@
 use mathlib.Core.Path.{◌≡◌, refl, sym, ap, subst, ◌∙◌}
 use mathlib.Core.Bool.{Bool, true, false, cond, not, ◌&&◌}
 use mathlib.Core.List.{List, []}
+use Rattle.std.specs.Prelude.{Option, Some, None}
 use Prim.Native.Nat.{ℕ, ◌+◌, ◌-◌, ◌/◌, ◌≤◌, ◌<◌}
 use native.Mathlib.Omega.{arith}
 use lib.Dec.{eqb, ltb, leb}
@@ -16,8 +17,6 @@ use Rattle.report_text.specs.declared.SlotTotals.{SlotTotals}
 use Rattle.report_text.specs.declared.ReportProgress.{ReportProgress}
 use Rattle.report_text.specs.declared.Block.{Block}
 use Rattle.report_text.specs.declared.FrontReport.{FrontReport}
-use Rattle.report_text.specs.declared.FrontAnswer.{FrontAnswer}
-use Rattle.report_text.specs.declared.FrontAnswer.TheVariants.{Reported, Refused}
 
 -- ---- what is lent, by its tests
 
@@ -110,7 +109,7 @@ between a b l h fits =
 -- ---- the first bytes of a buffer; b is the test's answer
 
 module _ (old : List ℕ) (have : ℕ) (p : ReportProgress) (out : List ℕ) (b : Bool) (is : b ≡ is_lent have (length old) (length out) p) where
-  pub front_refused : not b ≡ true → FrontAnswered old have p out old out Refused
+  pub front_refused : not b ≡ true → FrontAnswered old have p out old out None
   front_refused e = (sym is ∙ not-true b e, refl, refl)
 
   module _ (e : not b ≡ false) where
@@ -133,7 +132,7 @@ module _ (old : List ℕ) (have : ℕ) (p : ReportProgress) (out : List ℕ) (b 
       -- what is left is moved to the front
       pub front_reported : (ended : Bool) → ended ≡ ends_reading k.progress.left (take (have - k.used) (drop k.used old)) → (new : List ℕ)
           → length new ≡ length old → ((i : ℕ) → k.used + i < have → get_or new i 0 ≡ get_or old (k.used + i) 0)
-          → FrontAnswered old have p out new out' (Reported (record { block = k; carried = have - k.used; ended = ended }))
+          → FrontAnswered old have p out new out' (Some (record { block = k; carried = have - k.used; ended = ended }))
       front_reported ended d new kept moved = (
         sym is ∙ not-false b e,
         record {
@@ -180,19 +179,19 @@ module _ (input : List ℕ) (p : ReportProgress) (out : List ℕ) (b : Bool) (is
 
 -- ---- what the program keeps
 
-module _ (p : ReportProgress) (have : ℕ) (input out new out' : List ℕ) (a : FrontAnswer) (w : FrontAnswered input have p out new out' a)
+module _ (p : ReportProgress) (have : ℕ) (input out new out' : List ℕ) (a : Option FrontReport) (w : FrontAnswered input have p out new out' a)
     (inside : have ≤ length input)
     (roomy : length input / 3 + 257 ≤ length out) where
   -- nothing is refused
   pub unrefused : TotalsBounded p → IsReported a
   unrefused held = go a w
     where
-      go : (x : FrontAnswer) → FrontAnswered input have p out new out' x → IsReported x
-      go (Reported r) v = tt
-      go Refused v =
+      go : (x : Option FrontReport) → FrontAnswered input have p out new out' x → IsReported x
+      go (Some r) v = tt
+      go None v =
           true-false (lent_is have (length input) (length out) p (record { inside = inside; roomy = roomy; held = held })) v.0
 
-  module _ (r : FrontReport) (e : a ≡ Reported r) where
+  module _ (r : FrontReport) (e : a ≡ Some r) where
     front : FrontReported input have p new out' r
     front = (subst (FrontAnswered input have p out new out') e w).1
 

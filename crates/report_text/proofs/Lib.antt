@@ -2,4 +2,3 @@ pub mod Sizes
 pub mod Texts
 pub mod Blocks
 pub mod Fronts
-pub mod Moved

@@ -1,12 +1,10 @@
 -- The report block by block, and that the blocks of an input together print its report.
-use Rattle.std.specs.Prelude.{◌≡◌, Bool, true, false, cond, ◌&&◌, List, [], ◌++◌, ℕ, ◌+◌, ◌-◌, ◌*◌, ◌/◌, ◌^◌, ◌≤◌, eqb, ltb, leb, length, take, drop}
+use Rattle.std.specs.Prelude.{◌≡◌, Bool, true, false, cond, ◌&&◌, Option, Some, None, List, [], ◌++◌, ℕ, ◌+◌, ◌-◌, ◌*◌, ◌/◌, ◌^◌, ◌≤◌, eqb, ltb, leb, length, take, drop}
 use Rattle.report_text.specs.Report.{image_size, whole_size, no_totals, report_from, report_of}
 use Rattle.report_text.specs.declared.SlotTotals.{SlotTotals}
 use Rattle.report_text.specs.declared.ReportProgress.{ReportProgress}
 use Rattle.report_text.specs.declared.Block.{Block}
 use Rattle.report_text.specs.declared.FrontReport.{FrontReport}
-use Rattle.report_text.specs.declared.FrontAnswer.{FrontAnswer}
-use Rattle.report_text.specs.declared.FrontAnswer.TheVariants.{Reported, Refused}
 
 -- no total is above this bound
 pub record Below (t : SlotTotals) (bound : ℕ) : Type 0 where
@@ -69,10 +67,10 @@ pub record FrontReported (old : List ℕ) (have : ℕ) (p : ReportProgress) (new
   pub carried_over : take r.carried new ≡ drop r.block.used (take have old)
   pub ended_is : r.ended ≡ ends_reading r.block.progress.left (drop r.block.used (take have old))
 
--- refused exactly where they cannot be reported, and then no byte is changed
-abbrev pub FrontAnswered : (old : List ℕ) → (have : ℕ) → ReportProgress → (oldOut new out : List ℕ) → FrontAnswer → Type 0
-FrontAnswered old have p oldOut new out (Reported r) = (is_lent have (length old) (length oldOut) p ≡ true) × FrontReported old have p new out r
-FrontAnswered old have p oldOut new out Refused = (is_lent have (length old) (length oldOut) p ≡ false) × (new ≡ old) × (out ≡ oldOut)
+-- what is reported; none exactly where the bytes cannot be reported, and then no byte is changed
+abbrev pub FrontAnswered : (old : List ℕ) → (have : ℕ) → ReportProgress → (oldOut new out : List ℕ) → Option FrontReport → Type 0
+FrontAnswered old have p oldOut new out (Some r) = (is_lent have (length old) (length oldOut) p ≡ true) × FrontReported old have p new out r
+FrontAnswered old have p oldOut new out None = (is_lent have (length old) (length oldOut) p ≡ false) × (new ≡ old) × (out ≡ oldOut)
 
 -- the report from here to the end of the input; nothing where the sizes or the progress are none that a report can go
 -- on with

@@ -43,11 +43,3 @@ pub struct FrontReport {
     pub carried: usize,
     pub ended: bool,
 }
-
-// The answer on the first bytes of a buffer; refused where the sizes or the progress are none that a report can go on
-// with.
-#[derive(Clone, Copy)]
-pub enum FrontAnswer {
-    Reported(FrontReport),
-    Refused,
-}

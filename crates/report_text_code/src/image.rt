@@ -39,27 +39,18 @@ pub fn report_image(
     let mut heads = [0u32; 1];
     let entries = image.len() / 128;
     let answer = count_slots(image, &mut heads, &mut next[..entries]);
-    let totals = p.totals;
-    match answer {
-        CountAnswer::Counted(counts) => {
-            let end = store_counts(counts, out, at);
-            ImageReport {
-                progress: ReportProgress {
-                    left: p.left - 1,
-                    totals: add_counts(totals, counts),
-                },
-                end,
-            }
-        }
-        CountAnswer::Refused { number, slot: _ } => {
-            let end = store_refusal(number, out, at);
-            ImageReport {
-                progress: ReportProgress {
-                    left: p.left - 1,
-                    totals,
-                },
-                end,
-            }
-        }
+    let (totals, end) = match answer {
+        CountAnswer::Counted(counts) => (
+            add_counts(p.totals, counts),
+            store_counts(counts, out, at),
+        ),
+        CountAnswer::Refused { number, .. } => (p.totals, store_refusal(number, out, at)),
+    };
+    ImageReport {
+        progress: ReportProgress {
+            left: p.left - 1,
+            totals,
+        },
+        end,
     }
 }

@@ -8,19 +8,12 @@ use report_text::{ReportProgress, SlotTotals};
 fn is_below(t: SlotTotals, bound: u64) -> bool
     ensures result { result ≡ is_below t bound }
 {
-    if bound < t.live {
-        return false;
-    }
-    if bound < t.hidden {
-        return false;
-    }
-    if bound < t.removes {
-        return false;
-    }
-    if bound < t.void {
-        return false;
-    }
-    if bound < t.broken {
+    if bound < t.live
+        || bound < t.hidden
+        || bound < t.removes
+        || bound < t.void
+        || bound < t.broken
+    {
         return false;
     }
     t.empty <= bound
@@ -30,21 +23,14 @@ fn is_below(t: SlotTotals, bound: u64) -> bool
 fn is_bounded(p: ReportProgress) -> bool
     ensures result { result ≡ is_bounded p }
 {
-    if 1000000 < p.left {
-        return false;
-    }
-    let totals = p.totals;
-    is_below(totals, 4294967296 * (1000000 - p.left) as u64)
+    p.left <= 1000000 && is_below(p.totals, (1 << 32) * (1000000 - p.left) as u64)
 }
 
 // Can the first bytes of a buffer of this size be reported into so much room?
 pub fn is_lent(have: usize, size: usize, room: usize, p: ReportProgress) -> bool
     ensures result { result ≡ is_lent have size room p }
 {
-    if size < have {
-        return false;
-    }
-    if room < size / 3 + 257 {
+    if size < have || room < size / 3 + 257 {
         return false;
     }
     is_bounded(p)

@@ -14,7 +14,7 @@ ghost use Rattle.report_text.specs.inner.Images.{BlockLent};
 use crate::image::report_image;
 use crate::lent::is_lent;
 use crate::storing::{store_totals, store_unread};
-use report_text::{Block, FrontAnswer, FrontReport, ReportProgress, SlotTotals};
+use report_text::{Block, FrontReport, ReportProgress, SlotTotals};
 use report_text_input_code::carry::{ends_reading, move_down};
 use report_text_input_code::size::readable_size;
 
@@ -45,6 +45,7 @@ fn report_block(input: &[u8], p: ReportProgress, out: &mut [u8]) -> Block
     let mut at = 0;
     let mut end = 0;
     let mut size = readable_size(input, p.left);
+    // A while: how far each step goes is read at the image that it comes to, so no range gives it.
     while 0 < size {
         let after = at + size;
         let reported = report_image(&input[at..after], &mut next, progress, out, end);
@@ -61,19 +62,24 @@ fn report_block(input: &[u8], p: ReportProgress, out: &mut [u8]) -> Block
 }
 
 // The whole images among the first `have` bytes of the buffer are reported, and the bytes after them are carried over
-// to its front.
-pub fn report_front(input: &mut [u8], have: usize, p: ReportProgress, out: &mut [u8]) -> FrontAnswer
+// to its front; none where the sizes or the progress are none that a report can go on with.
+pub fn report_front(
+    input: &mut [u8],
+    have: usize,
+    p: ReportProgress,
+    out: &mut [u8],
+) -> Option<FrontReport>
     ensures answered { FrontAnswered input.old have p out.old input.new out.new result }
 {
     if !is_lent(have, input.len(), out.len(), p) {
-        return FrontAnswer::Refused;
+        return None;
     }
     let block = report_block(&input[..have], p, out);
     let used = block.used;
     let progress = block.progress;
     let ended = ends_reading(&input[used..have], progress.left);
     move_down(input, used, have);
-    FrontAnswer::Reported(FrontReport {
+    Some(FrontReport {
         block,
         carried: have - used,
         ended,

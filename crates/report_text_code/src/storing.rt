@@ -54,10 +54,7 @@ pub fn store_unread(left: u32, bytes: usize, out: &mut [u8], at: usize) -> usize
     requires { at + 24 ≤ length out.old }
     ensures result { Wrote out.old out.new at result (unread_text left bytes) }
 {
-    if left == 0 {
-        return at;
-    }
-    if bytes == 0 {
+    if left == 0 || bytes == 0 {
         return at;
     }
     store_refusal(1, out, at)

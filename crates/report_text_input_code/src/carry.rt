@@ -8,13 +8,7 @@ use crate::size::image_size;
 pub fn ends_reading(rest: &[u8], left: u32) -> bool
     ensures result { result ≡ ends_reading left rest.now }
 {
-    if left == 0 {
-        return true;
-    }
-    if rest.len() < 8 {
-        return false;
-    }
-    image_size(rest) == 0
+    left == 0 || rest.len() >= 8 && image_size(rest) == 0
 }
 
 // The bytes from position `from` up to `have` are moved to the front.
@@ -22,10 +16,5 @@ pub fn move_down(input: &mut [u8], from: usize, have: usize)
     requires { (from ≤ have) × (have ≤ length input.old) }
     ensures moved { (k : ℕ) → from + k < have → get_or input.new k 0 ≡ get_or input.old (from + k) 0 }
 {
-    let n = have - from;
-    let mut i = 0;
-    while i < n {
-        input[i] = input[from + i];
-        i += 1;
-    }
+    input.copy_within(from..have, 0);
 }

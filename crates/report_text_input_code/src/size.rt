@@ -9,10 +9,7 @@ use words_code::read_word;
 fn is_outside(n: u64) -> bool
     ensures { result ≡ outside n }
 {
-    if n < 2 {
-        return true;
-    }
-    511 < n
+    !matches!(n, 2..=511)
 }
 
 // The size of the image at the start of the input, by its word 0; 0 where that is outside, or is not there whole.
@@ -33,12 +30,10 @@ pub fn image_size(input: &[u8]) -> usize
 pub fn readable_size(input: &[u8], left: u32) -> usize
     ensures result { result ≡ readable left input.now }
 {
-    if left == 0 {
-        return 0;
-    }
     let size = image_size(input);
-    if input.len() < size {
-        return 0;
+    if left == 0 || input.len() < size {
+        0
+    } else {
+        size
     }
-    size
 }

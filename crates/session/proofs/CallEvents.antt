@@ -11,9 +11,9 @@ use Rattle.prelude.specs.Answer.{Answer, gives, absent, refused}
 use Rattle.prelude.proofs.Fills.{zeros}
 use Rattle.interface.proofs.SetLaws.{layout_1, call_laws}
 use Rattle.prelude.specs.Members.{none_left}
-use Rattle.interface.specs.Set.{index_fault, RightSize, slots_of, State, Store, Played, played, standing, half_counts, World, Mode, Insert, Replace, Call}
+use Rattle.interface.specs.Set.{index_fault, RightSize, slots_of, State, Store, Played, played, standing, half_counts, World, Mode, Call}
 use Rattle.interface.specs.Set.{write}
-use Rattle.interface.specs.Set.{remove, get, CallResult, write_result, locate_result, is_held, call_result, playing, finished, invalidated_world, restarted}
+use Rattle.interface.specs.Set.{remove, get, CallResult, write_result, is_held, call_result, playing, finished, invalidated_world, restarted}
 use Rattle.interface.specs.Set.{after_rounds, slots_in, PlainMap, Typed, write_typed, remove_typed, reads_only, Unchanged, Index, out_of, index_of}
 use Rattle.interface.specs.Event.{Cut, done, struck, effects_of, step, Fits, done_fits, step_by, image_cut}
 use Rattle.interface.proofs.Stored.{refusal_still}
@@ -23,8 +23,9 @@ use Rattle.text.specs.Output.{Printed, ok}
 use Rattle.session.specs.Step.{StepResult, leaves, played_all, recover_step, stored_with, changed_as, change_step, word_bytes, mode_by, word_change, write_step}
 use Rattle.session.specs.Step.{got_by, word_found, line_step}
 use Rattle.text.specs.declared.Line.TheVariants.{Write, Remove, Get}
-use Rattle.session.specs.declared.Waiting.{Waiting}
-use Rattle.session.specs.declared.Waiting.TheVariants.{Nothing, Counts}
+use Rattle.session.specs.Waiting.{Waiting}
+use Rattle.std.specs.Prelude.{Some, None}
+use Rattle.session.specs.declared.WaitingCut.{WaitingCut}
 use Rattle.session.specs.declared.Session.{Session}
 use Rattle.session.specs.Lines.{session_of, mode_for, struck_with, event_in, waits_on, change_prints, printed_for}
 use Rattle.session.specs.Rule.{FewWait, none_waits, few_wait}
@@ -55,8 +56,9 @@ module _ (Inv : World → PlainMap → Type 0) (laws : SetLaws 1 Inv) where
 
   idle_event : (w : World) (waiting : Waiting) (call : Call) → (call_result 1 w call).stores ≡ [] → event_in w waiting call ≡ done call
   unfolding event_in struck_with
-  idle_event w Nothing call e = refl
-  idle_event w (Counts a b) call e = ap (struck_with call a b (call_result 1 w call).index.heads (call_result 1 w call).index.next) e
+  idle_event w None call e = refl
+  idle_event w (Some counts) call e =
+      ap (struck_with call counts.a counts.b (call_result 1 w call).index.heads (call_result 1 w call).index.next) e
 
   idle_step : (w : World) (waiting : Waiting) (call : Call) → Still w (call_result 1 w call) → w ≡ step 1 w (event_in w waiting call)
   unfolding step_by
@@ -90,7 +92,7 @@ module _ (Inv : World → PlainMap → Type 0) (laws : SetLaws 1 Inv) where
     prints = sym (says (call_result 1 w call).answer (call_result 1 w call).out ∙ ap (λ (c : CallResult). change_prints c.answer) d)
 
     -- all stores are played
-    all-played : left_by (leaves (ok given) (record { n = n; state = state; waiting = Nothing }) (played_all w.image stores) heads next) ≡
+    all-played : left_by (leaves (ok given) (record { n = n; state = state; waiting = None }) (played_all w.image stores) heads next) ≡
         finished 1 w call
     unfolding played_all finished step_by
     all-played =
@@ -98,15 +100,15 @@ module _ (Inv : World → PlainMap → Type 0) (laws : SetLaws 1 Inv) where
         ∙ ap (λ (x : List ℕ). record { image = x; index = (call_result 1 w call).index })
         (ap (λ (x : Played). x.bytes) (laws.plays_event w m i (done call) (done_fits typed)).0)
 
-    module _ (a b : ℕ) (p : a ≤ 8) (q : b ≤ 8) where
-      struck_event : event_in w (Counts a b) call ≡ struck call (cut_by a b)
+    module _ (counts : WaitingCut) (p : counts.a ≤ 8) (q : counts.b ≤ 8) where
+      struck_event : event_in w (Some counts) call ≡ struck call (cut_by counts.a counts.b)
       unfolding event_in struck_with
-      struck_event = ap (λ (c : CallResult). struck_with call a b c.index.heads c.index.next c.stores) d
+      struck_event = ap (λ (c : CallResult). struck_with call counts.a counts.b c.index.heads c.index.next c.stores) d
 
-      struck_fits : Fits 1 (slots_in w.image) (struck call (cut_by a b))
-      struck_fits = subst (Fits 1 (slots_in w.image)) struck_event (event_fits Inv laws w call m i typed (Counts a b))
+      struck_fits : Fits 1 (slots_in w.image) (struck call (cut_by counts.a counts.b))
+      struck_fits = subst (Fits 1 (slots_in w.image)) struck_event (event_fits Inv laws w call m i typed (Some counts))
 
-      struck_size : RightSize (cut_image a b) heads next
+      struck_size : RightSize (cut_image counts.a counts.b) heads next
       unfolding image_cut
       struck_size =
           ap (λ (k : ℕ). index_fault (slots_of k) (length heads) (length next)) ((call_laws 1 layout_1).plays_length _ w.image)
@@ -114,22 +116,22 @@ module _ (Inv : World → PlainMap → Type 0) (laws : SetLaws 1 Inv) where
           ∙ left_size Inv laws w call m i typed
 
       -- the counted stores, by play
-      struck-image : playing w.image stores a b ≡ cut_image a b
+      struck-image : playing w.image stores counts.a counts.b ≡ cut_image counts.a counts.b
       unfolding image_cut
       struck-image =
-          ap (λ (c : CallResult). playing w.image c.stores a b) (sym d) ∙ laws.plays_cut w m i call typed a b p q
-          ∙ ap (λ (c : CallResult). played (standing (half_counts c.stores a b) (call_result 1 w call).stores) w.image) d
+          ap (λ (c : CallResult). playing w.image c.stores counts.a counts.b) (sym d) ∙ laws.plays_cut w m i call typed counts.a counts.b p q
+          ∙ ap (λ (c : CallResult). played (standing (half_counts c.stores counts.a counts.b) (call_result 1 w call).stores) w.image) d
 
       -- A STRUCK CALL: its counted stores are played, and recovery accepts
-      recovers : recover_step (ok given) n (playing w.image stores a b) heads next ≡
-          goes_on (ok given) n (invalidated_world 1 (cut_image a b) heads next)
+      recovers : recover_step (ok given) n (playing w.image stores counts.a counts.b) heads next ≡
+          goes_on (ok given) n (invalidated_world 1 (cut_image counts.a counts.b) heads next)
       unfolding after_rounds
       recovers =
           ap (λ (x : List ℕ). recover_step (ok given) n x heads next) struck-image
-          ∙ recover-step (ok given) n (cut_image a b) heads next _ (laws.keeps_always w m i call (cut_by a b) struck_fits [] none_left) struck_size
+          ∙ recover-step (ok given) n (cut_image counts.a counts.b) heads next _ (laws.keeps_always w m i call (cut_by counts.a counts.b) struck_fits [] none_left) struck_size
 
     -- the call takes a waiting cut
-    taken : (waiting : Waiting) → waits_on waiting (call_result 1 w call).stores ≡ Nothing
+    taken : (waiting : Waiting) → waits_on waiting (call_result 1 w call).stores ≡ None
     unfolding waits_on
     taken waiting = ap (λ (c : CallResult). waits_on waiting c.stores) d
 
@@ -137,15 +139,15 @@ module _ (Inv : World → PlainMap → Type 0) (laws : SetLaws 1 Inv) where
     carried waiting v e = record {
       answer = prints;
       world = e;
-      session = ap (λ (x : World). session_of n x Nothing) e ∙ ap (session_of n (step 1 w (event_in w waiting call))) (sym (taken waiting));
+      session = ap (λ (x : World). session_of n x None) e ∙ ap (session_of n (step 1 w (event_in w waiting call))) (sym (taken waiting));
     }
 
     stored : (waiting : Waiting) → FewWait waiting → Carried n waiting w call (stored_with n given state stores w.image heads next waiting)
     unfolding stored_with event_in step_by restarted after_rounds finished
-    stored Nothing none_waits = carried Nothing _ all-played
-    stored (Counts a b) (few_wait p q) =
-        subst (Carried n (Counts a b) w call) (sym (recovers a b p q))
-        (carried (Counts a b) _ (sym (ap (step 1 w) (struck_event a b p q))))
+    stored None none_waits = carried None _ all-played
+    stored (Some counts) (few_wait p q) =
+        subst (Carried n (Some counts) w call) (sym (recovers counts p q))
+        (carried (Some counts) _ (sym (ap (step 1 w) (struck_event counts p q))))
 
 -- ---- the calls
 

@@ -10,7 +10,7 @@ use Rattle.interface.specs.Laws.{SetLaws}
 use Rattle.session.specs.Step.{StepResult, slots_for, line_step}
 use Rattle.session.specs.Stream.{step_after}
 use Rattle.text.specs.declared.Line.{Line}
-use Rattle.session.specs.declared.Waiting.{Waiting}
+use Rattle.session.specs.Waiting.{Waiting}
 use Rattle.session.specs.Lines.{world_of, call_in, event_in, waits_on}
 use Rattle.session.specs.Rule.{fault_at, plain_prints, map_by_line, map_after, FewWait, none_waits, LineCorrect, call_line}
 use Rattle.session.proofs.defs.Keeps.{SetKeeps, Keeps}

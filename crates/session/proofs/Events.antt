@@ -9,8 +9,8 @@ use Rattle.interface.specs.Set.{World, Call, PlainMap, Store, Typed, call_result
 use Rattle.interface.specs.Set.{slots_in}
 use Rattle.interface.specs.Event.{done, step, Fits, done_fits, struck_fits, step_by}
 use Rattle.interface.specs.Laws.{SetLaws}
-use Rattle.session.specs.declared.Waiting.{Waiting}
-use Rattle.session.specs.declared.Waiting.TheVariants.{Nothing, Counts}
+use Rattle.session.specs.Waiting.{Waiting}
+use Rattle.std.specs.Prelude.{Some, None}
 use Rattle.session.specs.Lines.{struck_with, event_in}
 
 module _ (Inv : World → PlainMap → Type 0) (laws : SetLaws 1 Inv) (w : World) (call : Call) where
@@ -24,8 +24,8 @@ module _ (Inv : World → PlainMap → Type 0) (laws : SetLaws 1 Inv) (w : World
 
   pub event_heads : (waiting : Waiting) → length (step 1 w (event_in w waiting call)).index.heads ≡ length w.index.heads
   unfolding step_by event_in
-  event_heads Nothing = (call_laws 1 layout_1).call-heads w call
-  event_heads (Counts a b) = struck_heads a b (call_result 1 w call).stores
+  event_heads None = (call_laws 1 layout_1).call-heads w call
+  event_heads (Some counts) = struck_heads counts.a counts.b (call_result 1 w call).stores
 
   module _ (m : PlainMap) (i : Inv w m) (s : Typed 1 call) where
     -- the index that the call leaves has the right size
@@ -44,5 +44,5 @@ module _ (Inv : World → PlainMap → Type 0) (laws : SetLaws 1 Inv) (w : World
 
     pub event_fits : (waiting : Waiting) → Fits 1 (slots_in w.image) (event_in w waiting call)
     unfolding event_in
-    event_fits Nothing = done_fits s
-    event_fits (Counts a b) = struck_fit a b (call_result 1 w call).stores
+    event_fits None = done_fits s
+    event_fits (Some counts) = struck_fit counts.a counts.b (call_result 1 w call).stores

@@ -12,8 +12,8 @@ use Rattle.session.specs.Step.{StepResult, recovered_as, recovered_by, recover_s
 use Rattle.session.specs.Step.{write_step, got_as, got_by, word_found, line_step, followed_by, front_step, step_result}
 use Rattle.text.specs.declared.Line.{Line}
 use Rattle.text.specs.declared.Line.TheVariants.{New, Write, Remove, Get, Cut, Bad}
-use Rattle.session.specs.declared.Waiting.{Waiting}
-use Rattle.session.specs.declared.Waiting.TheVariants.{Nothing, Counts}
+use Rattle.session.specs.Waiting.{Waiting}
+use Rattle.std.specs.Prelude.{Some, None}
 use Rattle.session.specs.declared.Session.{Session}
 use Rattle.prelude.proofs.Refusals.{by_refusal}
 use Rattle.interface.proofs.SetLaws.{layout_1, call_laws}
@@ -49,8 +49,8 @@ made_few n s image heads next (refused number) few = tt
 stored_few : (n : ℕ) (values : List ℕ) (state : State) (stores : List Store) (image heads next : List ℕ) (waiting : Waiting)
     → length values ≤ 2 → FewNumbers (stored_with n values state stores image heads next waiting).answer
 unfolding stored_with recover_step recovered_by
-stored_few n values state stores image heads next Nothing few = few
-stored_few n values state stores image heads next (Counts a b) few = recovered_few _ n _ _ _ _ _ few
+stored_few n values state stores image heads next None few = few
+stored_few n values state stores image heads next (Some counts) few = recovered_few _ n _ _ _ _ _ few
 
 changed_few : (s : Session) (state : State) (stores : List Store) (image heads next : List ℕ) (answer : Answer) → Few answer
     → FewNumbers (changed_as s state stores image heads next answer).answer

@@ -13,7 +13,7 @@ use Rattle.text.specs.Output.{Printed}
 use Rattle.session.specs.Step.{StepResult, slots_for, size_fault, line_fault, line_step, followed_by, front_step, step_result}
 use Rattle.session.specs.Stream.{step_after}
 use Rattle.text.specs.declared.Line.{Line}
-use Rattle.session.specs.declared.Waiting.{Waiting}
+use Rattle.session.specs.Waiting.{Waiting}
 use Rattle.session.specs.declared.Session.{Session}
 use Rattle.session.proofs.Steps.{room}
 use Rattle.session.specs.Lines.{world_of, session_of}

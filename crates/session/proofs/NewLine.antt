@@ -1,6 +1,6 @@
 -- A line `n N`: format and recovery, after which the plain map is empty. Assumes nothing.
 use mathlib.Core.Path.{◌≡◌, refl, sym, ap, ◌∙◌, subst}
-use mathlib.Core.Option.{some, none}
+use mathlib.Core.Option.{none}
 use mathlib.Core.List.{List, [], ◌∷◌}
 use Prim.Native.Nat.{ℕ, ◌+◌, ◌*◌}
 use lib.ListN.{length, take}
@@ -11,7 +11,7 @@ use Rattle.text.specs.Output.{ok}
 use Rattle.session.specs.Step.{StepResult, slots_for, size_fault, make_step, line_step}
 use Rattle.session.specs.Stream.{step_after}
 use Rattle.text.specs.declared.Line.TheVariants.{New}
-use Rattle.session.specs.declared.Waiting.TheVariants.{Nothing}
+use Rattle.std.specs.Prelude.{None}
 use Rattle.session.proofs.Steps.{FitsLent, room}
 use Rattle.session.specs.Rule.{fault_at, map_by_line, map_after, none_waits, new_world, LineCorrect, new_line}
 use Rattle.session.proofs.defs.Keeps.{Keeps}
@@ -59,9 +59,9 @@ module _ (Inv : World → PlainMap → Type 0) (laws : SetLaws 1 Inv) (r : StepR
       one-head Inv laws n fresh (λ k. none) fresh_keeps fresh_slots
       ((call_laws 1 layout_1).recovery_heads (formatted 1 (length image)) heads next ∙ heads_front r n size)
 
-  made : LeftBehind n (ok (n ∷ [])) (new_world r n) Nothing (make_step n r.session image heads next)
+  made : LeftBehind n (ok (n ∷ [])) (new_world r n) None (make_step n r.session image heads next)
   made =
-      subst (LeftBehind n (ok (n ∷ [])) (new_world r n) Nothing)
+      subst (LeftBehind n (ok (n ∷ [])) (new_world r n) None)
       (sym
       (new_step Inv laws n fitting.some fitting.few r.session image heads next (image_front r n size) (heads_front r n size) (next_front r n size)
       ∙ ap (goes_on (ok (n ∷ [])) n) as_new))
@@ -70,6 +70,6 @@ module _ (Inv : World → PlainMap → Type 0) (laws : SetLaws 1 Inv) (r : StepR
   pub new_goes : LineCorrect r m (New n) × Keeps Inv (step_after r (New n)) (map_after r m (New n))
   unfolding slots_for map_by_line line_step
   new_goes =
-      let l = line_leaves r m (New n) n refl z Inv (ok (n ∷ [])) (new_world r n) Nothing (λ k. none) made (subst (OneHead n) as_new fresh_sizes) none_waits
+      let l = line_leaves r m (New n) n refl z Inv (ok (n ∷ [])) (new_world r n) None (λ k. none) made (subst (OneHead n) as_new fresh_sizes) none_waits
       (subst (λ (w : World). Inv w (λ k. none)) as_new fresh_keeps) refl in
       (new_line z l.0, l.1)

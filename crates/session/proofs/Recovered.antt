@@ -18,12 +18,12 @@ use Rattle.interface.specs.Recovers.{Recovers}
 use Rattle.interface.specs.Laws.{SetLaws}
 use Rattle.text.specs.Output.{Printed, ok}
 use Rattle.session.specs.Step.{StepResult, leaves, played_all, recovered_as, recovered_by, recover_step, made_as, made_by, make_step}
-use Rattle.session.specs.declared.Waiting.TheVariants.{Nothing}
+use Rattle.std.specs.Prelude.{None}
 use Rattle.session.specs.declared.Session.{Session}
 
 -- the session goes on with this set, and no cut waits
 abbrev pub goes_on : Printed → (n : ℕ) → World → StepResult
-goes_on p n w = leaves p (record { n = n; state = w.index.state; waiting = Nothing }) w.image w.index.heads w.index.next
+goes_on p n w = leaves p (record { n = n; state = w.index.state; waiting = None }) w.image w.index.heads w.index.next
 
 -- what a format of n slots leaves
 abbrev left_bytes : (n : ℕ) → List ℕ → FormatResult

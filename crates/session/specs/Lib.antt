@@ -1,3 +1,4 @@
+pub mod Waiting
 pub mod Step
 pub mod Stream
 pub mod Lines

@@ -1,5 +1,5 @@
 -- The lines of a trial session as calls and events of the cut rule. Document 01, "The trial session".
-use Rattle.std.specs.Prelude.{Bool, cond, List, [], ◌∷◌, ℕ, ◌+◌, ◌*◌, take, replicate}
+use Rattle.std.specs.Prelude.{Some, None, Bool, cond, List, [], ◌∷◌, ℕ, ◌+◌, ◌*◌, take, replicate}
 use Rattle.std.proofs.Math.Option.{Option, some, none}
 use Rattle.words.specs.Word.{word}
 use Rattle.prelude.specs.Answer.{Answer, gives, absent, refused}
@@ -9,8 +9,7 @@ use Rattle.text.specs.Output.{Printed, ok, not_held, no}
 use Rattle.session.specs.Step.{StepResult, word_bytes, got_as}
 use Rattle.text.specs.declared.Line.{Line}
 use Rattle.text.specs.declared.Line.TheVariants.{New, Write, Remove, Get, Cut, Bad}
-use Rattle.session.specs.declared.Waiting.{Waiting}
-use Rattle.session.specs.declared.Waiting.TheVariants.{Nothing, Counts}
+use Rattle.session.specs.Waiting.{Waiting}
 use Rattle.session.specs.declared.Session.{Session}
 
 -- the set of a session: "formats and recovers with one head", so it is the fronts of the lent image and index for its n
@@ -51,13 +50,14 @@ struck_with call a b heads next (s ∷ ss) =
 
 -- "the next accepted p, or r that stores, plays only A and B stores, and recovery runs"
 unfoldable pub event_in : World → Waiting → Call → Event Call
-event_in w Nothing call = done call
-event_in w (Counts a b) call = struck_with call a b (call_result 1 w call).index.heads (call_result 1 w call).index.next (call_result 1 w call).stores
+event_in w None call = done call
+event_in w (Some counts) call =
+    struck_with call counts.a counts.b (call_result 1 w call).index.heads (call_result 1 w call).index.next (call_result 1 w call).stores
 
 -- the cut that waits after a call: one that has stores takes it
 unfoldable pub waits_on : Waiting → List Store → Waiting
 waits_on waiting [] = waiting
-waits_on waiting (s ∷ ss) = Nothing
+waits_on waiting (s ∷ ss) = None
 
 -- ---- what a call's line prints
 

@@ -1,6 +1,6 @@
 -- THE SESSION RULE: a trial session answers as the plain map does, whichever of its calls a waiting cut strikes.
 -- Document 01, "The trial session" and "The plain map and the cut rule".
-use Rattle.std.specs.Prelude.{◌≡◌, List, [], ◌∷◌, ℕ, ◌+◌, ◌*◌, ◌^◌, ◌≤◌, ◌<◌, length, take}
+use Rattle.std.specs.Prelude.{◌≡◌, List, [], ◌∷◌, ℕ, ◌+◌, ◌*◌, ◌^◌, ◌≤◌, ◌<◌, length, take, Some, None}
 use Rattle.std.proofs.Math.Option.{Option, some, none}
 use Rattle.prelude.specs.Refusal.{unless_refused}
 use Rattle.interface.specs.Set.{formatted, World, Call, call_result, invalidated_world, PlainMap, plain_out, expected_refusal, expected_answer, CallCorrect}
@@ -12,8 +12,8 @@ use Rattle.session.specs.Step.{StepResult, leaves, no_set, size_fault, line_faul
 use Rattle.session.specs.Stream.{step_after}
 use Rattle.text.specs.declared.Line.{Line}
 use Rattle.text.specs.declared.Line.TheVariants.{New, Write, Remove, Get, Cut, Bad}
-use Rattle.session.specs.declared.Waiting.{Waiting}
-use Rattle.session.specs.declared.Waiting.TheVariants.{Nothing, Counts}
+use Rattle.session.specs.Waiting.{Waiting}
+use Rattle.session.specs.declared.WaitingCut.{WaitingCut}
 use Rattle.session.specs.declared.Session.{Session}
 use Rattle.session.specs.Lines.{world_of, session_of, call_in, event_in, waits_on, printed_for}
 use Rattle.prelude.specs.Members.{All}
@@ -57,8 +57,8 @@ map_after r m line = unless_refused (fault_at r line) (map_by_line (world_of r) 
 
 -- the counts of a waiting cut are at most 8: "`no 14` for a count above 8"
 pub data FewWait : Waiting → Type 0 where
-  none_waits : FewWait Nothing
-  few_wait : {a b : ℕ} → a ≤ 8 → b ≤ 8 → FewWait (Counts a b)
+  none_waits : FewWait None
+  few_wait : {counts : WaitingCut} → counts.a ≤ 8 → counts.b ≤ 8 → FewWait (Some counts)
 
 -- there is a set: it fits into the lent image and index, a waiting cut has fit counts, and recovery, the slots and get
 -- give the plain map m
@@ -95,9 +95,9 @@ pub data LineCorrect (r : StepResult) (m : PlainMap) : Line → Type 0 where
   refused_line : {line : Line} → (fault_at r line ≡ 0 → ⊥)
       → step_after r line ≡ leaves (no (fault_at r line)) r.session r.image r.heads r.next → LineCorrect r m line
   new_line : {n : ℕ} → fault_at r (New n) ≡ 0
-      → Leaves r (New n) (ok (n ∷ [])) (session_of n (new_world r n) Nothing) (new_world r n) → LineCorrect r m (New n)
+      → Leaves r (New n) (ok (n ∷ [])) (session_of n (new_world r n) None) (new_world r n) → LineCorrect r m (New n)
   cut_line : {a b : ℕ} → fault_at r (Cut a b) ≡ 0
-      → Leaves r (Cut a b) (cut a b) (session_of r.session.n (world_of r) (Counts a b)) (world_of r) → LineCorrect r m (Cut a b)
+      → Leaves r (Cut a b) (cut a b) (session_of r.session.n (world_of r) (Some (record { a = a; b = b }))) (world_of r) → LineCorrect r m (Cut a b)
   call_line : {line : Line} {call : Call} → fault_at r line ≡ 0 → call_in m line ≡ some call
       → Leaves r line (plain_prints (world_of r) m call)
       (session_of r.session.n (world_after_call r call) (waits_on r.session.waiting (call_result 1 (world_of r) call).stores))

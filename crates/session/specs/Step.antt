@@ -1,5 +1,5 @@
 -- One line of the session is carried out. Document 01, "The trial session".
-use Rattle.std.specs.Prelude.{List, ◌++◌, ℕ, ◌+◌, ◌*◌, ltb, length, take, drop, replicate}
+use Rattle.std.specs.Prelude.{Some, None, List, ◌++◌, ℕ, ◌+◌, ◌*◌, ltb, length, take, drop, replicate}
 use Rattle.words.specs.Word.{word, set_word}
 use Rattle.prelude.specs.Refusal.{refuse_if, or_else, unless_refused}
 use Rattle.prelude.specs.Answer.{Answer, gives, absent, refused}
@@ -9,8 +9,7 @@ use Rattle.interface.specs.Set.{index_of}
 use Rattle.text.specs.Output.{Printed, ok, found, cut, not_held, no}
 use Rattle.text.specs.declared.Line.{Line}
 use Rattle.text.specs.declared.Line.TheVariants.{New, Write, Remove, Get, Cut, Bad}
-use Rattle.session.specs.declared.Waiting.{Waiting}
-use Rattle.session.specs.declared.Waiting.TheVariants.{Nothing, Counts}
+use Rattle.session.specs.Waiting.{Waiting}
 use Rattle.session.specs.declared.Session.{Session}
 
 -- the answer, the session after it, and the lent image and index
@@ -27,7 +26,7 @@ leaves p s image heads next = record { answer = p; session = s; image = image; h
 
 -- before an accepted n: no slots, and no cut waits
 unfoldable pub no_set : Session
-no_set = record { n = 0; state = no_state; waiting = Nothing }
+no_set = record { n = 0; state = no_state; waiting = None }
 
 -- ---- refusals
 
@@ -85,7 +84,7 @@ played_all image stores = (play_list_result image (word_numbers stores) (values 
 -- p is what the line prints. Where recovery refuses an image there is no set any more (it answers no absent)
 unfoldable pub recovered_as : (p : Printed) → (n : ℕ) → (image heads next : List ℕ) → State → Answer → StepResult
 recovered_as p n image heads next state (gives values) =
-    leaves p (record { n = n; state = state; waiting = Nothing }) image heads next
+    leaves p (record { n = n; state = state; waiting = None }) image heads next
 recovered_as p n image heads next state absent = leaves not_held no_set image heads next
 recovered_as p n image heads next state (refused number) = leaves (no number) no_set image heads next
 
@@ -120,10 +119,10 @@ make_step n s image heads next = made_by n s heads next (format_result 1 image)
 -- "`ok slot version`". A waiting cut: "the next accepted p, or r that stores, plays only A and B stores, and recovery
 -- runs"
 unfoldable pub stored_with : (n : ℕ) → (values : List ℕ) → State → List Store → (image heads next : List ℕ) → Waiting → StepResult
-stored_with n values state stores image heads next Nothing =
-    leaves (ok values) (record { n = n; state = state; waiting = Nothing }) (played_all image stores) heads next
-stored_with n values state stores image heads next (Counts a b) =
-    recover_step (ok values) n (playing image stores a b) heads next
+stored_with n values state stores image heads next None =
+    leaves (ok values) (record { n = n; state = state; waiting = None }) (played_all image stores) heads next
+stored_with n values state stores image heads next (Some counts) =
+    recover_step (ok values) n (playing image stores counts.a counts.b) heads next
 
 -- by the answer of the call; "the same, or `absent`", or its refusal; after either of the last two a cut goes on
 -- waiting
@@ -175,7 +174,7 @@ word_found image heads next key = got_by (get_result 1 image heads next key (rep
 
 -- the session with a cut of these counts waiting
 unfoldable pub waiting_for : Session → (a b : ℕ) → Session
-waiting_for s a b = record { n = s.n; state = s.state; waiting = Counts a b }
+waiting_for s a b = record { n = s.n; state = s.state; waiting = Some (record { a = a; b = b }) }
 
 -- ---- a line on an image and an index of the set's size
 

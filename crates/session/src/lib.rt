@@ -7,18 +7,18 @@ use text::{Parse, Reply};
 
 // The cut that waits for the next accepted p, or r that stores: how many stores of each line it leaves.
 #[derive(Clone, Copy)]
-pub enum Waiting {
-    Nothing,
-    Counts { a: usize, b: usize },
+pub struct WaitingCut {
+    pub a: usize,
+    pub b: usize,
 }
 
 // What a session keeps beside the image and the index: the number of slots, 0 before an accepted n, the state and the
-// waiting cut.
+// waiting cut, if there is one.
 #[derive(Clone, Copy)]
 pub struct Session {
     pub n: u64,
     pub state: State,
-    pub waiting: Waiting,
+    pub waiting: Option<WaitingCut>,
 }
 
 // A step's answer and the session after it.

@@ -10,7 +10,7 @@ use orderset::{
     Change, Formatted, Got, Invalidations, Located, Outcome, Recovered, State, Stores, format, get,
     insert, locate, play, play_list, recover, remove, replace,
 };
-use session::{Session, Stepped, Waiting};
+use session::{Session, Stepped};
 use text::Reply;
 use words_code::{padded_word, write_word};
 
@@ -20,9 +20,11 @@ fn open_slots(image: &mut [u8], invalidations: Invalidations)
     ensures { image.new ≡ played_all image.old (stores_in invalidations) }
 {
     let count = invalidations.count as usize;
-    let at = invalidations.at;
-    let value = invalidations.value;
-    play_list(image, &at[..count], &value[..count]);
+    play_list(
+        image,
+        &invalidations.at[..count],
+        &invalidations.value[..count],
+    );
 }
 
 // Recovery and its invalidating stores, after which the session goes on with this answer.
@@ -37,19 +39,17 @@ fn recover_session(
         ≡ recover_step (reply_says reply) n image.old heads.old next.old }
 {
     let answer = recover(image, heads, next);
-    let invalidations = answer.invalidations;
-    open_slots(image, invalidations);
-    let index = answer.recovered;
-    match index {
+    open_slots(image, answer.invalidations);
+    match answer.recovered {
         Recovered::Rebuilt(state) => Stepped {
             reply,
             session: Session {
                 n,
                 state,
-                waiting: Waiting::Nothing,
+                waiting: None,
             },
         },
-        Recovered::Refused { number, slot: _ } => Stepped {
+        Recovered::Refused { number, .. } => Stepped {
             reply: Reply::Refused(number),
             session: empty_session(),
         },
@@ -67,8 +67,7 @@ pub fn make(
     ensures result { step_end result image.new heads.new next.new
         ≡ make_step n session image.old heads.old next.old }
 {
-    let formatted = format(image, 1);
-    match formatted {
+    match format(image, 1) {
         Formatted::Slots(slots) => recover_session(
             Reply::Made(slots as u64),
             n,
@@ -99,31 +98,21 @@ fn play_or_cut(
         ≡ stored_with session.n (slot ∷ version ∷ []) change.state (zipped stores.at stores.value) image.old
         heads.old next.old session.waiting }
 {
-    let waiting = session.waiting;
-    match waiting {
-        Waiting::Nothing => {
-            let at = stores.at;
-            let value = stores.value;
-            play_list(image, &at, &value);
-            let state = change.state;
+    let reply = Reply::Stored { slot, version };
+    match session.waiting {
+        None => {
+            play_list(image, &stores.at, &stores.value);
             Stepped {
-                reply: Reply::Stored { slot, version },
+                reply,
                 session: Session {
-                    n: session.n,
-                    state,
-                    waiting: Waiting::Nothing,
+                    state: change.state,
+                    ..session
                 },
             }
         }
-        Waiting::Counts { a, b } => {
-            play(image, stores, a, b);
-            recover_session(
-                Reply::Stored { slot, version },
-                session.n,
-                image,
-                heads,
-                next,
-            )
+        Some(cut) => {
+            play(image, stores, cut.a, cut.b);
+            recover_session(reply, session.n, image, heads, next)
         }
     }
 }
@@ -140,8 +129,7 @@ pub fn carry_change(
     ensures result { step_end result image.new heads.new next.new
         ≡ change_step session image.old (change_end change stores.at stores.value heads.old next.old) }
 {
-    let outcome = change.outcome;
-    match outcome {
+    match change.outcome {
         Outcome::Stored { slot, version } => {
             play_or_cut(slot, version, change, stores, session, image, heads, next)
         }
@@ -173,15 +161,11 @@ pub fn write_key(
 {
     let mut value = [0u8; 8];
     write_word(&mut value, 0, word);
-    let answer = locate(image, heads, next, key);
-    let located = answer.located;
-    match located {
-        Located::At {
-            slot: _,
-            version: _,
-        } => replace(image, heads, next, state, key, &value, at, words),
-        Located::Absent => insert(image, heads, next, state, key, &value, at, words),
-        Located::Refused(_) => insert(image, heads, next, state, key, &value, at, words),
+    match locate(image, heads, next, key).located {
+        Located::At { .. } => replace(image, heads, next, state, key, &value, at, words),
+        Located::Absent | Located::Refused(_) => {
+            insert(image, heads, next, state, key, &value, at, words)
+        }
     }
 }
 
@@ -197,10 +181,18 @@ pub fn write_line(
     ensures result { step_end result image.new heads.new next.new
         ≡ write_step key word session image.old heads.old next.old }
 {
-    let state = session.state;
     let mut at = [0u32; 16];
     let mut value = [0u64; 16];
-    let change = write_key(image, heads, next, state, key, word, &mut at, &mut value);
+    let change = write_key(
+        image,
+        heads,
+        next,
+        session.state,
+        key,
+        word,
+        &mut at,
+        &mut value,
+    );
     carry_change(change, Stores { at, value }, session, image, heads, next)
 }
 
@@ -216,10 +208,9 @@ pub fn remove_line(
         ≡ change_step session image.old
         (remove_result 1 image.old (index_of heads.old next.old session.state) key) }
 {
-    let state = session.state;
     let mut at = [0u32; 16];
     let mut value = [0u64; 16];
-    let change = remove(image, heads, next, state, key, &mut at, &mut value);
+    let change = remove(image, heads, next, session.state, key, &mut at, &mut value);
     carry_change(change, Stores { at, value }, session, image, heads, next)
 }
 
@@ -227,9 +218,7 @@ pub fn remove_line(
 fn get_by(image: &[u8], heads: &[u32], next: &[u32], key: u64, out: &mut [u8]) -> Reply
     ensures { reply_says result ≡ got_by (get_result 1 image.now heads.now next.now key out.old) }
 {
-    let answer = get(image, heads, next, key, out);
-    let got = answer.got;
-    match got {
+    match get(image, heads, next, key, out).got {
         Got::Length(_) => Reply::Found(padded_word(out, 0)),
         Got::Absent => Reply::Absent,
         Got::Refused(number) => Reply::Refused(number),

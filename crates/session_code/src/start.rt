@@ -3,7 +3,7 @@ ghost use Rattle.std.specs.Prelude.{◌≡◌};
 ghost use Rattle.session.specs.Step.{no_set};
 
 use orderset::State;
-use session::{Session, Waiting};
+use session::Session;
 
 // A session before an accepted n.
 pub fn empty_session() -> Session
@@ -18,6 +18,6 @@ pub fn empty_session() -> Session
             newest: 0,
             version: 0,
         },
-        waiting: Waiting::Nothing,
+        waiting: None,
     }
 }

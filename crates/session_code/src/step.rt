@@ -4,7 +4,7 @@ ghost use Rattle.session.specs.inner.Step.{step_end};
 ghost use Rattle.session.specs.Step.{waiting_for, line_step, step_result};
 
 use crate::lines::{get_word, make, remove_line, write_line};
-use session::{Session, Stepped, Waiting};
+use session::{Session, Stepped, WaitingCut};
 use session_refusal_code::refusal::{line_fault, slots_for};
 use text::{Line, Reply};
 
@@ -12,14 +12,12 @@ use text::{Line, Reply};
 fn wait(session: Session, a: u64, b: u64) -> Session
     ensures { result ≡ waiting_for session a b }
 {
-    let state = session.state;
     Session {
-        n: session.n,
-        state,
-        waiting: Waiting::Counts {
+        waiting: Some(WaitingCut {
             a: a as usize,
             b: b as usize,
-        },
+        }),
+        ..session
     }
 }
 

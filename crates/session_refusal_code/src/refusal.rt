@@ -10,12 +10,8 @@ fn form_fault(line: Line) -> u32
     ensures { result ≡ form_fault line }
 {
     match line {
-        Line::New(_) => 0,
-        Line::Write { key: _, word: _ } => 0,
-        Line::Remove(_) => 0,
-        Line::Get(_) => 0,
-        Line::Cut { a: _, b: _ } => 0,
         Line::Bad => 16,
+        _ => 0,
     }
 }
 
@@ -25,11 +21,7 @@ pub fn slots_for(line: Line, session: Session) -> u64
 {
     match line {
         Line::New(n) => n,
-        Line::Write { key: _, word: _ } => session.n,
-        Line::Remove(_) => session.n,
-        Line::Get(_) => session.n,
-        Line::Cut { a: _, b: _ } => session.n,
-        Line::Bad => session.n,
+        _ => session.n,
     }
 }
 
@@ -37,19 +29,7 @@ pub fn slots_for(line: Line, session: Session) -> u64
 fn size_fault(n: u64, image: usize, heads: usize, next: usize) -> u32
     ensures { result ≡ size_fault n image heads next }
 {
-    if n < 2 {
-        return 1;
-    }
-    if 511 < n {
-        return 1;
-    }
-    if image < 128 * (n as usize + 1) {
-        return 1;
-    }
-    if heads < 1 {
-        return 1;
-    }
-    if next < n as usize + 1 {
+    if n < 2 || 511 < n || image < 128 * (n as usize + 1) || heads < 1 || next < n as usize + 1 {
         return 1;
     }
     0
@@ -59,13 +39,7 @@ fn size_fault(n: u64, image: usize, heads: usize, next: usize) -> u32
 fn count_fault(a: u64, b: u64) -> u32
     ensures { result ≡ count_fault a b }
 {
-    if 8 < a {
-        return 14;
-    }
-    if 8 < b {
-        return 14;
-    }
-    0
+    if 8 < a || 8 < b { 14 } else { 0 }
 }
 
 // 14 for a cut with a count above 8, else 0.
@@ -73,12 +47,8 @@ fn cut_fault(line: Line) -> u32
     ensures { result ≡ cut_fault line }
 {
     match line {
-        Line::New(_) => 0,
-        Line::Write { key: _, word: _ } => 0,
-        Line::Remove(_) => 0,
-        Line::Get(_) => 0,
         Line::Cut { a, b } => count_fault(a, b),
-        Line::Bad => 0,
+        _ => 0,
     }
 }
 

@@ -1,13 +1,12 @@
 -- What the functions of the report ask and leave.
-use Rattle.std.specs.Prelude.{◌≡◌, List, ℕ, ◌+◌, ◌-◌, ◌*◌, ◌/◌, ◌≤◌, length}
+use Rattle.std.specs.Prelude.{◌≡◌, Option, Some, None, List, ℕ, ◌+◌, ◌-◌, ◌*◌, ◌/◌, ◌≤◌, length}
 use Rattle.prelude.specs.Answer.{Answer}
 use Rattle.text.specs.inner.Output.{Wrote}
 use Rattle.report_text.specs.Report.{image_answer, answer_text, totals_with}
 use Rattle.report_text.specs.Blocks.{TotalsBounded}
 use Rattle.report_text.specs.declared.ReportProgress.{ReportProgress}
 use Rattle.report_text.specs.declared.ImageReport.{ImageReport}
-use Rattle.report_text.specs.declared.FrontAnswer.{FrontAnswer}
-use Rattle.report_text.specs.declared.FrontAnswer.TheVariants.{Reported, Refused}
+use Rattle.report_text.specs.declared.FrontReport.{FrontReport}
 
 -- one image more
 unfoldable pub progress_with : Answer → ReportProgress → ReportProgress
@@ -42,6 +41,6 @@ pub record Buffers (p : ReportProgress) (have : ℕ) (input out : List ℕ) : Ty
   pub room : length input / 3 + 257 ≤ length out
 
 -- it was not refused
-abbrev pub IsReported : FrontAnswer → Type 0
-IsReported (Reported r) = Unit {0}
-IsReported Refused = ⊥
+abbrev pub IsReported : Option FrontReport → Type 0
+IsReported (Some r) = Unit {0}
+IsReported None = ⊥

@@ -1,10 +1,9 @@
 -- Answers of `report_text_code::report_block`.
-use Prim.Native.Nat.{ℕ, ◌-◌}
+use Prim.Native.Nat.{ℕ}
 use mathlib.Core.Path.{sym}
 use native.Mathlib.Omega.{arith}
-use borrow.Author.Rules.{rules}
-use lib.ListN.{length, length-replicate}
-use Rattle.report_text.proofs.Blocks.{Blocking, block_start, image_inside, block_image, block_next, block_end}
+use lib.ListN.{length-replicate}
+use Rattle.report_text.proofs.Blocks.{block_start, image_inside, block_image, block_next, block_end}
 use Rattle.report_text_code.proofs.report_block.Goals as goal
 
 pub loop-size-init : goal.loop-size-init

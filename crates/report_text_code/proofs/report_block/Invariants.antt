@@ -1,10 +1,7 @@
 -- Invariants and measures of `report_text_code::report_block`.
-use Prim.Native.Nat.{ℕ, ◌-◌}
-use mathlib.Core.Path.{sym}
-use native.Mathlib.Omega.{arith}
-use borrow.Author.Rules.{rules}
-use lib.ListN.{length, length-replicate}
-use Rattle.report_text.proofs.Blocks.{Blocking, block_start, image_inside, block_image, block_next, block_end}
+use Prim.Native.Nat.{◌-◌}
+use lib.ListN.{length}
+use Rattle.report_text.proofs.Blocks.{Blocking}
 use Rattle.report_text_code.proofs.report_block.Given as goal
 
 -- `report_text_code::report_block` meets its contract. Assumes nothing.

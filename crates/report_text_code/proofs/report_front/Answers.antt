@@ -1,6 +1,4 @@
 -- Answers of `report_text_code::report_front`.
-use native.Mathlib.Omega.{arith}
-use borrow.Author.Rules.{rules}
 use Rattle.prelude.proofs.Lists.{front_length}
 use Rattle.report_text.proofs.Fronts.{front_refused, front_inside, front_lent, used_inside, front_reported}
 use Rattle.std.proofs.lemmas.Bool.{not_from_true, not_from_false}

@@ -1,6 +1,5 @@
 -- Answers of `report_text_code::report_last`.
 use native.Mathlib.Omega.{arith}
-use borrow.Author.Rules.{rules}
 use Rattle.report_text.proofs.Blocks.{totals_room, last_reported}
 use Rattle.report_text.proofs.Fronts.{last_refused, last_lent, last_whole}
 use Rattle.std.proofs.lemmas.Bool.{not_from_true, not_from_false}

@@ -1,7 +1,7 @@
 -- The output for a step on a line, line by line and byte by byte.
 use mathlib.Core.Bool.{Bool, true, false, cond}
 use mathlib.Core.List.{List, [], ◌∷◌, ◌++◌}
-use Prim.Native.Nat.{ℕ, ◌+◌}
+use Prim.Native.Nat.{ℕ}
 use lib.Dec.{eqb}
 use Rattle.text.specs.Forms.{line_of}
 use Rattle.text.specs.Parsing.{fed, line_read}

@@ -1,7 +1,6 @@
 -- Answers of `report_text_code::image::add_counts`.
 use mathlib.Core.Path.{refl}
 use native.Mathlib.Omega.{arith}
-use borrow.Author.Rules.{rules}
 use Rattle.interface.specs.Set.{count_values}
 use Rattle.report_text.specs.Report.{totals_with}
 use Rattle.report_text_code.proofs.image.add_counts.Goals as goal

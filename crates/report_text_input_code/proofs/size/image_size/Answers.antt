@@ -1,6 +1,5 @@
 -- Answers of `report_text_input_code::size::image_size`.
 use native.Mathlib.Omega.{arith}
-use borrow.Author.Rules.{rules}
 use Rattle.report_text.proofs.Sizes.{inside_range, size_short, size_outside, size_inside}
 use Rattle.report_text_input_code.proofs.size.image_size.Goals as goal
 

@@ -1,17 +1,16 @@
 -- Answers of `report_text_input_code::size::readable_size`.
-use borrow.Author.Rules.{rules}
+use mathlib.Core.Logic.{inl, inr}
 use Rattle.report_text.proofs.Sizes.{readable_none, readable_part, readable_whole}
 use Rattle.report_text_input_code.proofs.size.readable_size.Goals as goal
-
-pub returns-then-left-eq0 : goal.returns-then-left-eq0
-returns-then-left-eq0 c =
-    record { result = (readable_none _ _ c.if-left-eq0.true) }
 
 -- `report_text_input_code::size::readable_size` meets its contract. Assumes nothing.
 pub returns-then-input-size : goal.returns-then-input-size
 returns-then-input-size c =
-    record { result = (readable_part _ _ c.if-left-eq0.false _ c.image_size-size.ensures.result c.if-input-size.true) }
+    elim c.if-input-size.either [
+      | inl none ↦ record { result = readable_none _ _ none }
+      | inr (some, part) ↦ record { result = readable_part _ _ some _ c.image_size-size.ensures.result part }
+    ]
 
-pub returns : goal.returns
-returns c =
-    record { result = (readable_whole _ _ c.if-left-eq0.false _ c.image_size-size.ensures.result c.if-input-size.false) }
+pub returns-else-input-size : goal.returns-else-input-size
+returns-else-input-size c =
+    record { result = readable_whole _ _ c.if-input-size.false.0 _ c.image_size-size.ensures.result c.if-input-size.false.1 }

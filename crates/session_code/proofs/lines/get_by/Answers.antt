@@ -1,6 +1,5 @@
 -- Answers of `session_code::lines::get_by`.
-use mathlib.Core.Path.{ap}
-use Rattle.interface.specs.Set.{get_says, ReadOnlyResult}
+use Rattle.interface.specs.Set.{get_says}
 use Rattle.text.specs.inner.Output.{reply_says}
 use Rattle.session.specs.Step.{got_by, got_as}
 use borrow.Author.Rules.{rules}
@@ -10,14 +9,14 @@ use Rattle.session_code.proofs.lines.get_by.Goals as goal
 pub returns-in-Length : goal.returns-in-Length
 unfolding got_by got_as get_says reply_says
 returns-in-Length c =
-    search (rules, ← c.get-answer.ensures.result, c.in-Length.is, c.padded_word.ensures.result)
+    search (rules, ← c.get.ensures.result, c.in-Length.is, c.padded_word.ensures.result)
 
 pub returns-in-Absent : goal.returns-in-Absent
 unfolding got_by got_as get_says reply_says
 returns-in-Absent c =
-    search (rules, ← c.get-answer.ensures.result, c.in-Absent.is)
+    search (rules, ← c.get.ensures.result, c.in-Absent.is)
 
 pub returns-in-Refused : goal.returns-in-Refused
 unfolding got_by got_as get_says reply_says
 returns-in-Refused c =
-    search (rules, ← c.get-answer.ensures.result, c.in-Refused.is)
+    search (rules, ← c.get.ensures.result, c.in-Refused.is)

@@ -9,9 +9,9 @@ use Rattle.session_code.proofs.lines.make.Goals as goal
 pub returns-in-Slots : goal.returns-in-Slots
 unfolding make_step made_by made_as format_says reply_says
 returns-in-Slots c =
-    record { result = (search (rules, ← c.format-formatted.ensures.result, c.in-Slots.is)) }
+    record { result = (search (rules, ← c.format.ensures.result, c.in-Slots.is)) }
 
 pub returns-in-Refused : goal.returns-in-Refused
 unfolding make_step made_by made_as format_says reply_says
 returns-in-Refused c =
-    record { result = (search (rules, ← c.format-formatted.ensures.result, c.in-Refused.is)) }
+    record { result = (search (rules, ← c.format.ensures.result, c.in-Refused.is)) }

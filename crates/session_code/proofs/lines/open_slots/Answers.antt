@@ -7,18 +7,10 @@ use Rattle.session.proofs.Steps.{invalidations_played_on}
 use borrow.Author.Rules.{rules}
 use Rattle.session_code.proofs.lines.open_slots.Goals as goal
 
-pub slice_bounds-at-end : goal.slice_bounds-at-end
-slice_bounds-at-end c =
-    let e : length c.args.invalidations.at ≡ 8 = search (rules, c.well_formed.1.0) in omega (arith, c.requires, e)
-
 pub slice_bounds-play_list-end : goal.slice_bounds-play_list-end
 slice_bounds-play_list-end c =
     let e : length c.args.invalidations.at ≡ 8 = search (rules, c.well_formed.1.0) in front_length _ c.args.invalidations.at
     (omega (arith, c.requires, e))
-
-pub slice_bounds-value-end : goal.slice_bounds-value-end
-slice_bounds-value-end c =
-    let e : length c.args.invalidations.value ≡ 8 = search (rules, c.well_formed.1.0) in omega (arith, c.requires, e)
 
 pub slice_bounds-play_list-end-2 : goal.slice_bounds-play_list-end-2
 slice_bounds-play_list-end-2 c =

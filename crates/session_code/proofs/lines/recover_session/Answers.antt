@@ -3,7 +3,6 @@ use Rattle.interface.specs.Set.{recover_end}
 use Rattle.interface.proofs.Images.{few_invalidations_left}
 use Rattle.text.specs.inner.Output.{reply_says}
 use Rattle.session.specs.Step.{recover_step, recovered_by, recovered_as}
-use borrow.Author.Rules.{rules}
 use Rattle.session_code.proofs.lines.recover_session.Goals as goal
 
 -- `session_code::lines::recover_session` meets its contract. Assumes nothing.

@@ -1,9 +1,7 @@
 -- Answers of `session_code::lines::remove_line`.
 use mathlib.Core.Path.{ap, ◌∙◌}
-use Rattle.interface.specs.Set.{CallResult}
 use Rattle.session.specs.Step.{change_step}
 use Rattle.session.proofs.Steps.{remove_left}
-use borrow.Author.Rules.{rules}
 use Rattle.session_code.proofs.lines.remove_line.Goals as goal
 
 -- `session_code::lines::remove_line` meets its contract. Assumes nothing.

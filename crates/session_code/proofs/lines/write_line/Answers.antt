@@ -2,7 +2,6 @@
 use mathlib.Core.Path.{ap, ◌∙◌}
 use Rattle.session.specs.Step.{change_step, write_step}
 use Rattle.session.proofs.Steps.{write_left}
-use borrow.Author.Rules.{rules}
 use Rattle.session_code.proofs.lines.write_line.Goals as goal
 
 -- `session_code::lines::write_line` meets its contract. Assumes nothing.
