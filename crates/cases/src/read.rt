@@ -1,59 +1,65 @@
 // The calls that only read: locate and get.
-use crate::set::{Set, lent};
-use orderset::{Got, Located, Outcome, get, locate};
-use show::fronts::bytes_of;
+use crate::set::Set;
+use orderset::{GetAnswer, Located, Outcome, get, locate};
 use std::io::Stdout;
 use words_code::read_word;
 
-// What locate and get answered, and the 80 bytes of which get was lent the front.
-#[derive(Clone, Copy)]
-pub struct Fetched {
-    pub located: Located,
-    pub got: Got,
-    pub out: [u8; 80],
-}
-
-pub fn fetch(set: Set, key: u64, size: u64) -> Fetched {
-    let image = set.image;
-    let heads = set.heads;
-    let next = set.next;
-    let fronts = lent(set);
-    let i = fronts.image;
-    let h = fronts.heads;
-    let k = fronts.next;
-    let mut out = [9u8; 80];
-    let o = bytes_of((size % 81) as usize, &out);
-    let a = &image[..i];
-    let b = &heads[..h];
-    let c = &next[..k];
-    let place = locate(a, b, c, key);
-    let located = place.located;
-    let value = get(a, b, c, key, &mut out[..o]);
-    let got = value.got;
-    Fetched { located, got, out }
-}
-
 fn show_located(stdout: Stdout, located: Located) {
-    match located {
-        Located::At { slot, version } => show::outcome(stdout, Outcome::Stored { slot, version }),
-        Located::Absent => show::outcome(stdout, Outcome::Absent),
-        Located::Refused(number) => show::outcome(stdout, Outcome::Refused(number)),
+    let outcome = match located {
+        Located::At { slot, version } => Outcome::Stored { slot, version },
+        Located::Absent => Outcome::Absent,
+        Located::Refused(number) => Outcome::Refused(number),
+    };
+    show::outcome(stdout, outcome);
+}
+
+impl Set {
+    // Get into these bytes.
+    fn get(&self, key: u64, out: &mut [u8]) -> GetAnswer {
+        let lent = self.lent();
+        get(
+            &self.image[..lent.image],
+            &self.heads[..lent.heads],
+            &self.next[..lent.next],
+            key,
+            out,
+        )
     }
-}
 
-fn show_fetched_words(stdout: Stdout, bytes: &[u8; 80]) {
-    show::number(stdout, read_word(bytes, 0));
-    show::number(stdout, read_word(bytes, 1));
-    show::number(stdout, read_word(bytes, 2));
-    show::number(stdout, read_word(bytes, 9));
-}
+    // What is open of this key's order: its second word less its third.
+    pub fn open_of(&self, key: u64) -> u64 {
+        let mut out = [9; 80];
+        self.get(key, &mut out);
+        read_word(&out, 1).saturating_sub(read_word(&out, 2))
+    }
 
-pub fn show_locate_and_get(stdout: Stdout, set: Set, n: [u64; 5]) {
-    let r = fetch(set, n[1], n[2]);
-    let located = r.located;
-    show_located(stdout, located);
-    let got = r.got;
-    show::got(stdout, got);
-    let out = r.out;
-    show_fetched_words(stdout, &out);
+    pub fn show_locate_and_get(&self, stdout: Stdout, key: u64, length: usize) {
+        let lent = self.lent();
+        let answer = locate(
+            &self.image[..lent.image],
+            &self.heads[..lent.heads],
+            &self.next[..lent.next],
+            key,
+        );
+        show_located(stdout, answer.located);
+        let mut out = [9; 80];
+        let answer = self.get(key, &mut out[..length.min(80)]);
+        show::got(stdout, answer.got);
+        for place in [0, 1, 2, 9] {
+            show::number(stdout, read_word(&out, place));
+        }
+    }
+
+    pub fn show_total(&self, stdout: Stdout) {
+        let open = (1..5).fold(0u64, |sum, key| sum.saturating_add(self.open_of(key)));
+        show::numbers(
+            stdout,
+            &[
+                self.book.ordered,
+                self.book.filled,
+                self.book.withdrawn,
+                open,
+            ],
+        );
+    }
 }
