@@ -7,7 +7,7 @@ ghost use Rattle.recovery.specs.inner.Judge.{Ready, Judgeable, Left, answer_by};
 ghost use Rattle.recovery.specs.inner.Report.{RecoveredWith};
 
 use index::State;
-use index_write_code::build::{chain_up, zero_numbers};
+use index_write_code::build::chain_up;
 use recovery::{Invalidations, RecoverAnswer, Recovered, RecoveryReport};
 use recovery_judge_code::judging::judge_slots;
 use recovery_judge_code::settling::no_invalidations;
@@ -16,11 +16,7 @@ use recovery_judge_code::settling::no_invalidations;
 fn last_of(order: &[u32]) -> u32
     ensures { result ≡ last_of order.now }
 {
-    let n = order.len();
-    if n == 0 {
-        return 0;
-    }
-    order[n - 1]
+    order.last().copied().unwrap_or(0)
 }
 
 // Heads and next become the chains of the order, each slot in the chain that places has for it; the state beside them
@@ -38,15 +34,14 @@ fn rebuild(
         ≡ with_counts (build (place_in places.now) (unbuilt (replicate (length heads.old) 0) (replicate (length next.old) 0))
         order.now) live (top + 1) (last_of order.now) }
 {
-    zero_numbers(heads);
-    zero_numbers(next);
+    heads.fill(0);
+    next.fill(0);
     let built = chain_up(heads, next, order, places);
     State {
-        first: built.first,
-        last: built.last,
         live,
         version: top + 1,
         newest: last_of(order),
+        ..built
     }
 }
 

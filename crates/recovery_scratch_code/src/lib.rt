@@ -1,4 +1,4 @@
-// Recovery with the scratch lists of each size.
+// Recovery with scratch lists of a size.
 
 #![tactic(auto)]
 

@@ -1,7 +1,6 @@
 -- Answers of `recovery_rebuild_code::rebuilding::rebuild_accepted`.
 use mathlib.Core.Path.{refl}
 use native.Mathlib.Omega.{arith}
-use borrow.Author.Rules.{rules}
 use Rattle.recovery_rebuild_code.proofs.rebuilding.rebuild_accepted.Goals as goal
 
 -- `recovery_rebuild_code::rebuilding::rebuild_accepted` meets its contract. Assumes nothing.
