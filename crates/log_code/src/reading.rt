@@ -1,12 +1,11 @@
 // Read: a message as the part of the lent area that holds it.
 ghost use Rattle.std.specs.Prelude.{◌≡◌, ℕ, [], ◌∷◌, ◌%◌, IfOk};
-ghost use Rattle.std.specs.Result.{MatchResult};
 ghost use Rattle.prelude.specs.Answer.{gives};
-ghost use Rattle.refusals.specs.Number.{number_of, fault_in};
+ghost use Rattle.refusals.specs.Number.{fault_in};
 ghost use Rattle.words.specs.Word.{word};
 ghost use Rattle.message_log.specs.Area.{cells_in, marked_line};
 ghost use Rattle.message_log.specs.Message.{message_start, message_in};
-ghost use Rattle.message_log.specs.Read.{read_fault, read_end, read_result, part_says, part_result};
+ghost use Rattle.message_log.specs.Read.{read_fault, read_says, read_result, part_says, part_result};
 ghost use Rattle.message_log.specs.inner.Needs.{Readable};
 
 use log_cell_code::cells::{check_area, is_shown};
@@ -39,9 +38,7 @@ fn message_part(area: &[u8], c: usize) -> &[u8]
 
 // The message with this number, unpadded; or the refusal, which has no part.
 pub fn read(area: &[u8], number: u64) -> Result<&[u8], Refusal>
-    ensures result { MatchResult result
-        (λ part. read_end part.now 0 ≡ read_result area.now number)
-        (λ refusal. read_end [] (number_of refusal) ≡ read_result area.now number) }
+    ensures result { read_says (λ part. part.now) result ≡ read_result area.now number }
 {
     let c = shown_cell(area, number)?;
     let part = message_part(area, c);

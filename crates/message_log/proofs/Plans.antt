@@ -32,7 +32,7 @@ use Rattle.message_log.proofs.Flexible.{count_within, pair_low, packed_low}
 use Rattle.stores.proofs.Lists.{StoresFill, stores_begin, stores_on, stores_end, stores_room}
 use Rattle.message_log.proofs.Fillings.{filled, filled_append, hand_refused, hand_done}
 use Rattle.message_log.proofs.AppendAfter.{after_highest}
-use Rattle.message_log.proofs.Parts.{cells_by}
+use Rattle.message_log.proofs.Parts.{is_area, cells_by}
 
 -- ---- the payload lines
 
@@ -352,6 +352,27 @@ module _ (area message : List ℕ) (ats vals k : ℕ) (e : k ≡ cells_in area) 
       (λ p g.
       ready_highest area message ats vals p.number p.cell p.pairs p.count
       (subst (λ (n : ℕ). AppendAfterReady area n message ats vals p.number p.cell p.pairs p.count) top_is g))
+
+-- an append whose payload is planned is planned
+module _ (area message : List ℕ) (ats vals k : ℕ) (e : k ≡ cells_in area) (some : k ≡ 0 → ⊥) (unfit : ℕ) (u : unfit ≡ message_fault (length message))
+    (fit : unfit ≡ 0) (top : ℕ) (f : top ≡ highest k (word area)) (over : ℕ) (v : over ≡ version_fault (top + 1)) (fits : over ≡ 0) (cell : ℕ)
+    (p : cell ≡ (top + 1) % k) (pairs stores : ℕ) (g : PayloadPlanned area cell message pairs stores) where
+  fine : 0 ≡ area_fault area
+  fine = sym (is_area area k e some)
+
+  low : 0 ≡ version_fault (suc top)
+  low = sym fits ∙ v ∙ ap version_fault (add-one top)
+
+  pub plan_done : (fault : ℕ) → fault ≡ short_fault (8 + stores) ats vals
+      → (fault ≡ append_fault area message ats vals) × (fault ≡ 0 → AppendReady area message ats vals (top + 1) cell pairs (8 + stores))
+  plan_done fault r = (
+    fault_by area message ats vals k e top f fault
+    (plan_fault area top message ats vals fine (sym fit ∙ u) low k e (top + 1) cell (add-one top) p pairs stores g fault r),
+    (λ z.
+    ready_highest area message ats vals (top + 1) cell pairs (8 + stores)
+    (subst (λ (n : ℕ). AppendAfterReady area n message ats vals (top + 1) cell pairs (8 + stores)) (top_is area message ats vals k e top f)
+    (plan_ready area top message ats vals fine (sym fit ∙ u) low k e (top + 1) cell (add-one top) p pairs stores g (sym z ∙ r)))),
+  )
 
 module _ (area message : List ℕ) where
   pub no_area_first : (ats vals fault : ℕ) → fault ≡ area_fault area → (fault ≡ 0 → ⊥) → fault ≡ append_fault area message ats vals

@@ -9,7 +9,7 @@ use lib.ListN.{length, take, drop, length-drop}
 use lib.Seq.{length-take-le}
 use borrow.Author.Tests.{not-false}
 use Rattle.std.specs.Prelude.{Result, Ok, Err}
-use Rattle.std.specs.Result.{IsErrAnd, MatchResult}
+use Rattle.std.specs.Result.{IsErrAnd}
 use Rattle.refusals.specs.declared.Refusal.{Refusal}
 use Rattle.refusals.specs.Number.{number_of}
 use Rattle.refusals.proofs.Numbers.{not_zero}
@@ -21,7 +21,7 @@ use Rattle.prelude.proofs.Refusals.{refuse_if_zero, or_else_first, or_else_zero,
 use Rattle.words.specs.Word.{word}
 use Rattle.message_log.specs.Area.{cells_in, area_fault, marked_line}
 use Rattle.message_log.specs.Message.{in_window, highest, shown, message_start, message_in}
-use Rattle.message_log.specs.Read.{read_fault, read_part, read_end, read_result, part_says, part_result}
+use Rattle.message_log.specs.Read.{read_fault, read_part, read_end, read_says, read_result, part_says, part_result}
 use Rattle.message_log.specs.Rule.{PartHolds}
 use Rattle.message_log.specs.inner.Needs.{Readable}
 use Rattle.message_log.proofs.Cells.{held}
@@ -61,10 +61,10 @@ module _ (area : List ℕ) (number : ℕ) where
 
   -- a refusal that a `?` hands on
   module _ (e : Refusal) (u : number_of e ≡ read_fault area number) where
-    pub read_handed : {A : Type 0} (P : A → Type 0) (r : Result A Refusal) → IsErrAnd r (λ y. y ≡ e)
-        → MatchResult r P (λ refusal. read_end [] (number_of refusal) ≡ read_result area number)
-    read_handed P (Ok part) h = absurd h
-    read_handed P (Err refusal) h = ap (λ (y : Refusal). read_end [] (number_of y)) h ∙ part_refused (number_of e) u (not_zero e)
+    pub read_handed : {A : Type 0} (bytes : A → List ℕ) (r : Result A Refusal) → IsErrAnd r (λ y. y ≡ e) → read_says bytes r ≡ read_result area number
+    unfolding read_says
+    read_handed bytes (Ok part) h = absurd h
+    read_handed bytes (Err refusal) h = ap (λ (y : Refusal). read_end [] (number_of y)) h ∙ part_refused (number_of e) u (not_zero e)
 
     pub find_handed : (r : Result Part Refusal) → IsErrAnd r (λ y. y ≡ e) → part_says r ≡ part_result area number
     unfolding part_says

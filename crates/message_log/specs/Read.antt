@@ -27,6 +27,11 @@ pub record ReadResult : Type 0 where
 abbrev pub read_end : (part : List ℕ) → (refusal : ℕ) → ReadResult
 read_end part refusal = record { part = part; refusal = refusal }
 
+-- what a read answers: a part, or the refusal. The part's bytes are got by `bytes`
+unfoldable pub read_says : {A : Type 0} → (bytes : A → List ℕ) → Result A Refusal → ReadResult
+read_says bytes (Ok part) = read_end (bytes part) 0
+read_says bytes (Err refusal) = read_end [] (number_of refusal)
+
 unfoldable pub read_result : (area : List ℕ) → (number : ℕ) → ReadResult
 read_result area number = read_end (read_part area number) (read_fault area number)
 
