@@ -1,21 +1,24 @@
 // Cells: how many an area has, the complete number of a cell, the highest complete number, and the numbers shown. k is
 // the number of cells.
-ghost use Rattle.std.specs.Prelude.{◌≡◌, ℕ, ◌+◌, ◌*◌, ◌≤◌, ◌<◌, max, length};
+ghost use Rattle.std.specs.Prelude.{◌≡◌, ℕ, ◌+◌, ◌*◌, ◌≤◌, ◌<◌, max, length, IfOk};
+ghost use Rattle.refusals.specs.Number.{fault_in};
 ghost use Rattle.words.specs.Word.{word};
-ghost use Rattle.message_log.specs.Area.{cells_of};
+ghost use Rattle.message_log.specs.Area.{cells_in, area_fault};
 ghost use Rattle.message_log.specs.Message.{bits_differ, message_number, highest, shown};
 ghost use Rattle.message_log.specs.inner.Needs.{CellCount, CellInside};
 
 use crate::bit::pair_differs;
+use refusals::Refusal;
 use words_code::{greater, read_word};
 
-// The cells of an area of len bytes, or 0 where no area has that length.
-pub fn cell_count(len: usize) -> usize
-    ensures result { result ≡ cells_of len }
+// How many cells the area has; or the refusal 30, where no area has its length.
+pub fn check_area(area: &[u8]) -> Result<usize, Refusal>
+    ensures fault { fault_in result ≡ area_fault area.now }
+    ensures cells { IfOk result (λ k. k ≡ cells_in area.now) }
 {
-    match len {
-        896..=448000 if len % 448 == 0 => len / 448,
-        _ => 0,
+    match area.len() {
+        len @ 896..=448000 if len % 448 == 0 => Ok(len / 448),
+        _ => Err(Refusal::BadLogLength),
     }
 }
 

@@ -5,7 +5,8 @@ ghost use Rattle.message_log.specs.AppendAfter.{append_after_result};
 
 use log_stores_code::filling::fill_message;
 use log_stores_code::planning::append_after_plan;
-use message_log::LogOutcome;
+use message_log::LogStored;
+use refusals::Refusal;
 
 // Appends a message after this number, which may be any: the number one above it and the count of its stores, which
 // fill the front of the lists; or the refusal, which changes nothing.
@@ -15,18 +16,14 @@ pub fn append_after(
     message: &[u8],
     at: &mut [u32],
     value: &mut [u64],
-) -> LogOutcome
+) -> Result<LogStored, Refusal>
     ensures result { log_end (log_answer result) at.new value.new
         ≡ append_after_result area.now last message.now at.old value.old }
 {
-    let plan = append_after_plan(area, last, message, at.len(), value.len());
-    let fault = plan.fault;
-    if fault != 0 {
-        return LogOutcome::Refused(fault);
-    }
+    let plan = append_after_plan(area, last, message, at.len(), value.len())?;
     fill_message(area, message, at, value, plan.cell, plan.number, plan.pairs);
-    LogOutcome::Stored {
+    Ok(LogStored {
         number: plan.number,
         count: plan.count,
-    }
+    })
 }

@@ -8,6 +8,6 @@ mod recovering;
 
 pub use after::append_after;
 pub use appending::append;
-pub use message_log::{LogOutcome, Part};
+pub use message_log::{LogStored, Part};
 pub use reading::{find, read};
 pub use recovering::recover_log;

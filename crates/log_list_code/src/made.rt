@@ -8,16 +8,17 @@ ghost use Rattle.message_log.specs.Recover.{recovery_stores, log_recover_fault};
 ghost use Rattle.message_log.specs.inner.List.{stored_count, StoresMade};
 
 use log_code::{append, recover_log};
-use message_log::{AppendMade, LogOutcome, RecoveryMade};
+use message_log::{AppendMade, LogStored, RecoveryMade};
+use refusals::Refusal;
 use words_code::lesser;
 
 // How many stores are handed out.
-fn stored_count(answer: LogOutcome) -> usize
+fn stored_count(answer: Result<LogStored, Refusal>) -> usize
     ensures { result ≡ stored_count answer }
 {
     match answer {
-        LogOutcome::Stored { number: _, count } => count,
-        LogOutcome::Refused(_) => 0,
+        Ok(stored) => stored.count,
+        Err(_) => 0,
     }
 }
 

@@ -1,5 +1,6 @@
 // The filling of the lent lists: at has the word numbers of the stores, value their values.
 ghost use Rattle.std.specs.Prelude.{◌≡◌, ℕ, ◌+◌, ◌*◌, ◌≤◌, ◌<◌, ◌^◌, length};
+ghost use Rattle.refusals.specs.Number.{fault_in};
 ghost use Rattle.words.specs.Word.{word};
 ghost use Rattle.stores.specs.Written.{marked, run};
 ghost use Rattle.message_log.specs.LogOutcome.{short_fault};
@@ -8,13 +9,17 @@ ghost use Rattle.message_log.specs.inner.Needs.{Filled, MarkedRoom, LineRoom, Pa
 
 use layout_line_code::line::{first_word, last_word};
 use log_cell_code::bit::{differing_word, store_count};
+use refusals::Refusal;
 use words_code::{padded_word, read_word};
 
-// 13 where a list is shorter than the stores, else 0.
-pub fn short_fault(count: usize, ats: usize, vals: usize) -> u32
-    ensures result { result ≡ short_fault count ats vals }
+// The refusal 13, where a list is shorter than the stores.
+pub fn check_room(count: usize, ats: usize, vals: usize) -> Result<(), Refusal>
+    ensures result { fault_in result ≡ short_fault count ats vals }
 {
-    if ats < count || vals < count { 13 } else { 0 }
+    if ats < count || vals < count {
+        return Err(Refusal::BufferTooShort);
+    }
+    Ok(())
 }
 
 // Word i of the marked line of a message, over a line with this stamp.

@@ -1,21 +1,24 @@
 // The plan of an append, which only reads.
-ghost use Rattle.std.specs.Prelude.{◌≡◌, ℕ, suc, ◌+◌, ◌*◌, ◌≤◌, length};
+ghost use Rattle.std.specs.Prelude.{◌≡◌, ℕ, suc, ◌+◌, ◌*◌, ◌≤◌, length, IfOk};
+ghost use Rattle.refusals.specs.Number.{fault_in};
 ghost use Rattle.layout.specs.Line.{version_fault};
-ghost use Rattle.message_log.specs.Append.{message_fault};
-ghost use Rattle.message_log.specs.inner.Needs.{PayloadPlanned, AppendPlanned, AppendAfterPlanned};
+ghost use Rattle.message_log.specs.Append.{message_fault, append_fault};
+ghost use Rattle.message_log.specs.AppendAfter.{append_after_fault};
+ghost use Rattle.message_log.specs.inner.Needs.{PayloadPlanned, AppendReady, AppendAfterReady};
 
-use crate::filling::short_fault;
+use crate::filling::check_room;
 use log_cell_code::bit::{differing_word, line_pair, store_count};
-use log_cell_code::cells::{cell_count, highest_number};
+use log_cell_code::cells::{check_area, highest_number};
 use message_log::{AppendPlan, Payload};
+use refusals::Refusal;
 
-// 29 where a message of this size is empty or over 384 bytes, else 0.
-fn message_fault(size: usize) -> u32
-    ensures { result ≡ message_fault size }
+// The refusal 29, where a message of this size is empty or over 384 bytes.
+fn check_message(size: usize) -> Result<(), Refusal>
+    ensures { fault_in result ≡ message_fault size }
 {
     match size {
-        1..=384 => 0,
-        _ => 29,
+        1..=384 => Ok(()),
+        _ => Err(Refusal::BadMessage),
     }
 }
 
@@ -35,68 +38,53 @@ fn payload_plan(area: &[u8], c: usize, message: &[u8]) -> Payload
     Payload { pairs, count }
 }
 
-// The plan of a refused append.
-fn no_plan(fault: u32) -> AppendPlan
-    ensures { result.fault ≡ fault }
+// The number above this one; or the refusal 9, where it is not below 2^63.
+fn next_number(last: u64) -> Result<u64, Refusal>
+    ensures fault { fault_in result ≡ version_fault (suc last) }
+    ensures next { IfOk result (λ number. number ≡ suc last) }
 {
-    AppendPlan {
-        fault,
-        number: 0,
-        cell: 0,
-        pairs: 0,
-        count: 0,
+    if last >= (1 << 63) - 1 {
+        return Err(Refusal::Exhausted);
     }
+    Ok(last + 1)
 }
 
-// 9 where the number above this one is not below 2^63, else 0. The sum is not made: any number is lent.
-fn number_fault(last: u64) -> u32
-    ensures { result ≡ version_fault (suc last) }
-{
-    if last >= (1 << 63) - 1 { 9 } else { 0 }
-}
-
-// The plan of an append after this number, to lists of ats and vals entries.
+// The plan of an append after this number, to lists of ats and vals entries; or its refusal.
 pub fn append_after_plan(
     area: &[u8],
     last: u64,
     message: &[u8],
     ats: usize,
     vals: usize,
-) -> AppendPlan
-    ensures result { AppendAfterPlanned area.now last message.now ats vals result.fault result.number result.cell result.pairs result.count }
+) -> Result<AppendPlan, Refusal>
+    ensures fault { fault_in result ≡ append_after_fault area.now last message.now ats vals }
+    ensures plan { IfOk result (λ plan. AppendAfterReady area.now last message.now ats vals plan.number plan.cell plan.pairs plan.count) }
 {
-    let k = cell_count(area.len());
-    if k == 0 {
-        return no_plan(30);
-    }
-    let unfit = message_fault(message.len());
-    if unfit != 0 {
-        return no_plan(unfit);
-    }
-    let over = number_fault(last);
-    if over != 0 {
-        return no_plan(over);
-    }
-    let number = last + 1;
+    let k = check_area(area)?;
+    check_message(message.len())?;
+    let number = next_number(last)?;
     let cell = (number % (k as u64)) as usize;
     let payload = payload_plan(area, cell, message);
     let count = 8 + payload.count;
-    AppendPlan {
-        fault: short_fault(count, ats, vals),
+    check_room(count, ats, vals)?;
+    Ok(AppendPlan {
         number,
         cell,
         pairs: payload.pairs,
         count,
-    }
+    })
 }
 
 // The plan of an append to lists of ats and vals entries: of one after the highest complete number.
-pub fn append_plan(area: &[u8], message: &[u8], ats: usize, vals: usize) -> AppendPlan
-    ensures result { AppendPlanned area.now message.now ats vals result.fault result.number result.cell result.pairs result.count }
+pub fn append_plan(
+    area: &[u8],
+    message: &[u8],
+    ats: usize,
+    vals: usize,
+) -> Result<AppendPlan, Refusal>
+    ensures fault { fault_in result ≡ append_fault area.now message.now ats vals }
+    ensures plan { IfOk result (λ plan. AppendReady area.now message.now ats vals plan.number plan.cell plan.pairs plan.count) }
 {
-    let k = cell_count(area.len());
-    if k == 0 {
-        return no_plan(30);
-    }
+    let k = check_area(area)?;
     append_after_plan(area, highest_number(area, k), message, ats, vals)
 }

@@ -1,6 +1,6 @@
 -- Filling the two lent lists with stores, part by part: what is left to fill is always the whole; and the result of a
 -- call that hands out stores. Assumes nothing.
-use mathlib.Core.Path.{◌≡◌, sym, ap, ap₂, ◌∙◌}
+use mathlib.Core.Path.{◌≡◌, refl, sym, ap, ap₂, ◌∙◌}
 use mathlib.Core.List.{List, [], ◌∷◌, ◌++◌}
 use Prim.Native.Nat.{ℕ, suc, ◌+◌, ◌-◌, ◌≤◌, ◌<◌}
 use native.Mathlib.Numerals.{add-one}
@@ -18,7 +18,12 @@ use Rattle.stores.specs.Play.{word_numbers, values}
 use Rattle.stores.specs.Written.{marked, run}
 use Rattle.prelude.proofs.Buffers.{sets_append, sets_first}
 use Rattle.stores.proofs.Lists.{numbers-length, values_length, numbers_append, values_append, StoresFill, stores_begin, stores_on, stores_end}
-use Rattle.message_log.specs.LogOutcome.{log_end, handing}
+use Rattle.std.specs.Prelude.{Result, Ok, Err}
+use Rattle.std.specs.Result.{IsErrAnd}
+use Rattle.refusals.specs.declared.Refusal.{Refusal}
+use Rattle.refusals.specs.Number.{number_of}
+use Rattle.message_log.specs.declared.LogStored.{LogStored}
+use Rattle.message_log.specs.LogOutcome.{log_answer, log_end, handing}
 use Rattle.message_log.specs.Append.{marked_body}
 use Rattle.message_log.specs.inner.Needs.{Filled}
 
@@ -75,6 +80,12 @@ module _ (base : ℕ) (words : ℕ → ℕ) (count from : ℕ) (at₀ value₀ :
   fill_end j at value g h = filled (stores_end g.left (ap (run base words j) (let none : count - j ≡ 0 = omega arith in none)))
 
 -- ---- the result
+
+-- a refusal that a `?` hands on
+pub answer_handed : (e : Refusal) (r : Result LogStored Refusal) → IsErrAnd r (λ y. y ≡ e) → log_answer r ≡ refused (number_of e)
+unfolding log_answer
+answer_handed e (Ok stored) h = absurd h
+answer_handed e (Err refusal) h = rw h refl
 
 pub hand_refused : (fault number : ℕ) (ss : List Store) (at value : List ℕ) (f : ℕ) → f ≡ fault → (f ≡ 0 → ⊥)
     → log_end (refused f) at value ≡ handing fault number ss at value

@@ -26,8 +26,9 @@ use Rattle.message_log.specs.Append.{message_fault, next_message, append_stores,
 use Rattle.message_log.specs.Recover.{recovery_stores, log_recover_fault, log_recover_result, log_recover_list_result}
 use Rattle.message_log.specs.Rule.{count_given, as_numbers, ListAgrees}
 use Rattle.message_log.specs.inner.List.{stored_count, stores_handed, StoresMade}
-use Rattle.message_log.specs.declared.LogOutcome.{LogOutcome}
-use Rattle.message_log.specs.declared.LogOutcome.TheVariants.{Stored, Refused}
+use Rattle.std.specs.Prelude.{Result, Ok, Err}
+use Rattle.refusals.specs.declared.Refusal.{Refusal}
+use Rattle.message_log.specs.declared.LogStored.{LogStored}
 use Rattle.message_log.proofs.Invalidations.{recovery_few}
 use Rattle.message_log.proofs.Parts.{area_cells, is_area}
 use Rattle.message_log.proofs.Plans.{append_few}
@@ -44,14 +45,14 @@ held count room z = ltb-false room count (refuse_if_zero _ _ _ z (omega arith)).
 
 -- ---- what a call that made its stores in arrays left
 
-says_count : (a : LogOutcome) → stored_count a ≡ count_given (log_answer a)
+says_count : (a : Result LogStored Refusal) → stored_count a ≡ count_given (log_answer a)
 unfolding stored_count log_answer count_given
-says_count (Stored number count) = refl
-says_count (Refused number) = refl
+says_count (Ok stored) = refl
+says_count (Err refusal) = refl
 
 -- from lists of which the arrays are the fronts
 made : (size room fault number : ℕ) (ss : List Store) → length ss ≤ size → (fault ≡ 0 → length ss ≤ room)
-    → (a : LogOutcome) (at₀ value₀ at₁ value₁ rest rest' : List ℕ) (stored : ℕ) → stored ≡ stored_count a
+    → (a : Result LogStored Refusal) (at₀ value₀ at₁ value₁ rest rest' : List ℕ) (stored : ℕ) → stored ≡ stored_count a
     → log_end (log_answer a) at₁ value₁ ≡ handing fault number ss at₀ value₀
     → StoresMade size room fault number ss a stored (at₁ ++ rest) (value₁ ++ rest')
 unfolding handing stores_handed unless_refused count_given zipped
@@ -79,7 +80,7 @@ made size room (suc k) number ss few fits a at₀ value₀ at₁ value₁ rest r
     none : stored ≡ 0
     none = es ∙ says_count a ∙ ap (λ (r : LogResult). count_given r.answer) e
 
-module _ (area : List ℕ) (room : ℕ) (a : LogOutcome) (at₀ value₀ at₁ value₁ : List ℕ) (stored : ℕ) (rest rest' : List ℕ) (es : stored ≡ stored_count a) where
+module _ (area : List ℕ) (room : ℕ) (a : Result LogStored Refusal) (at₀ value₀ at₁ value₁ : List ℕ) (stored : ℕ) (rest rest' : List ℕ) (es : stored ≡ stored_count a) where
   -- ---- an append
 
   module _ (message : List ℕ) where
@@ -183,7 +184,7 @@ filled zero number ss list = refl
 filled (suc k) number ss list = refl
 
 -- the numbers that are put are those of the arrays
-pub in_list : (size room fault number : ℕ) (ss : List Store) (a : LogOutcome) (stored : ℕ) (at value at' value' : List ℕ)
+pub in_list : (size room fault number : ℕ) (ss : List Store) (a : Result LogStored Refusal) (stored : ℕ) (at value at' value' : List ℕ)
     → StoresMade size room fault number ss a stored at value
     → at' ≡ at → value' ≡ value → length at' ≡ size → length value' ≡ size → (list zs : List Store) → zs ≡ stores_put at' value' stored list
     → log_list_end (log_answer a) zs ≡ handing_list fault number ss list

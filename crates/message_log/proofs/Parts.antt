@@ -60,8 +60,8 @@ module _ (area : List ℕ) (k : ℕ) (e : k ≡ cells_in area) where
   unfolding area_fault
   is_area ne = refuse_if-false (eqb (cells_in area) 0) 30 0 (ne_eqb _ 0 (λ z. ne (e ∙ z)))
 
-  pub cells_by : (k ≡ 0 → ⊥) → CellCount (length area) k
-  cells_by ne = subst (CellCount (length area)) (sym e) (cells_known (length area) (λ z. ne (e ∙ z)))
+  pub cells_by : 0 ≡ area_fault area → CellCount (length area) k
+  cells_by fine = subst (CellCount (length area)) (sym e) (area_cells area (sym fine))
 
 -- ---- the part that holds a message
 

@@ -8,7 +8,11 @@ use native.Mathlib.Omega.{arith}
 use lib.ListN.{length, length-append}
 use lib.Dec.{ltb}
 use borrow.Author.Tests.{ltb-false, leb-false}
+use Rattle.std.specs.Prelude.{Result, IfOk}
+use Rattle.std.proofs.lemmas.Result.{IfOk-weaker}
 use Rattle.prelude.specs.Answer.{gives, refused}
+use Rattle.refusals.specs.declared.Refusal.{Refusal}
+use Rattle.message_log.specs.declared.AppendPlan.{AppendPlan}
 use Rattle.prelude.proofs.Refusals.{refuse_if_zero, or_else_first, or_else_later}
 use Rattle.words.specs.Word.{AreBytes, word}
 use Rattle.words.proofs.Laws.{word_range}
@@ -23,13 +27,12 @@ use Rattle.message_log.specs.Append.{message_line, line_count, payload_stores, p
 use Rattle.message_log.specs.Append.{message_fault}
 use Rattle.message_log.specs.Append.{next_message, append_stores, append_fault, append_result}
 use Rattle.message_log.specs.AppendAfter.{append_after_stores, append_after_fault, append_after_result}
-use Rattle.message_log.specs.inner.Needs.{CellCount, Filled, ListRoom, PayloadPlanned, AppendPlanned, AppendAfterReady, AppendAfterPlanned}
+use Rattle.message_log.specs.inner.Needs.{CellCount, Filled, ListRoom, PayloadPlanned, AppendReady, AppendAfterReady}
 use Rattle.message_log.proofs.Flexible.{count_within, pair_low, packed_low}
 use Rattle.stores.proofs.Lists.{StoresFill, stores_begin, stores_on, stores_end, stores_room}
 use Rattle.message_log.proofs.Fillings.{filled, filled_append, hand_refused, hand_done}
 use Rattle.message_log.proofs.AppendAfter.{after_highest}
-use Rattle.message_log.proofs.Parts.{no_area, is_area, cells_by}
-use Rattle.message_log.proofs.Inside.{area_first_after}
+use Rattle.message_log.proofs.Parts.{is_area, cells_by}
 
 -- ---- the payload lines
 
@@ -220,106 +223,91 @@ append_few cells m message =
 -- ---- the refusals
 
 -- a number that is not refused
-pub number_low : (last over : ℕ) → over ≡ version_fault (suc last) → over ≡ 0 → suc last < 2 ^ 63
+number_low : (last : ℕ) → 0 ≡ version_fault (suc last) → suc last < 2 ^ 63
 unfolding version_fault
-number_low last over v fits = leb-false (2 ^ 63) (suc last) (refuse_if_zero _ _ _ (sym v ∙ fits) (omega arith)).0
+number_low last fits = leb-false (2 ^ 63) (suc last) (refuse_if_zero _ _ _ (sym fits) (omega arith)).0
 
-module _ (area : List ℕ) (last : ℕ) (message : List ℕ) (ats vals k : ℕ) (e : k ≡ cells_in area) where
-  refuses_with : (fault number cell pairs count n : ℕ) → (n ≡ 0 → ⊥) → fault ≡ n → n ≡ append_after_fault area last message ats vals
-      → AppendAfterPlanned area last message ats vals fault number cell pairs count
-  refuses_with fault number cell pairs count n ne p q = record { refusal = p ∙ q; ready = λ z. absurd (ne (sym p ∙ z)) }
+module _ (area : List ℕ) (last : ℕ) (message : List ℕ) (ats vals : ℕ) where
+  pub plan_no_area : (fault : ℕ) → fault ≡ area_fault area → (fault ≡ 0 → ⊥) → fault ≡ append_after_fault area last message ats vals
+  unfolding append_after_fault
+  plan_no_area fault u ne = u ∙ sym (or_else_first (area_fault area) _ (λ z. ne (u ∙ z)))
 
-  pub plan_no_area : (fault number cell pairs count : ℕ) → k ≡ 0 → fault ≡ 30 → AppendAfterPlanned area last message ats vals fault number cell pairs count
-  plan_no_area fault number cell pairs count z p =
-      refuses_with fault number cell pairs count 30 (λ x. omega arith) p (sym (area_first_after area last message ats vals (no_area area k e z)))
+  module _ (fine : 0 ≡ area_fault area) where
+    pub plan_no_message : (fault : ℕ) → fault ≡ message_fault (length message) → (fault ≡ 0 → ⊥) → fault ≡ append_after_fault area last message ats vals
+    unfolding append_after_fault
+    plan_no_message fault u ne =
+        u ∙ sym (or_else_later (area_fault area) _ (sym fine) ∙ or_else_first (message_fault (length message)) _ (λ z. ne (u ∙ z)))
 
-  module _ (some : k ≡ 0 → ⊥) where
-    all : CellCount (length area) k
-    all = cells_by area k e some
-
-    area_fine : area_fault area ≡ 0
-    area_fine = is_area area k e some
-
-    module _ (unfit : ℕ) (u : unfit ≡ message_fault (length message)) where
-      pub plan_no_message : (fault number cell pairs count : ℕ) → (unfit ≡ 0 → ⊥) → fault ≡ unfit
-          → AppendAfterPlanned area last message ats vals fault number cell pairs count
+    module _ (fit : 0 ≡ message_fault (length message)) where
+      pub plan_no_number : (fault : ℕ) → fault ≡ version_fault (suc last) → (fault ≡ 0 → ⊥) → fault ≡ append_after_fault area last message ats vals
       unfolding append_after_fault
-      plan_no_message fault number cell pairs count ne p =
-          refuses_with fault number cell pairs count unfit ne p
-          (u ∙ sym (or_else_later (area_fault area) _ area_fine ∙ or_else_first (message_fault (length message)) _ (λ z. ne (u ∙ z))))
+      plan_no_number fault u ne =
+          u
+          ∙ sym
+          (or_else_later (area_fault area) _ (sym fine) ∙ or_else_later (message_fault (length message)) _ (sym fit)
+          ∙ or_else_first (version_fault (suc last)) _ (λ z. ne (u ∙ z)))
 
-      module _ (fit : unfit ≡ 0) (over : ℕ) (v : over ≡ version_fault (suc last)) where
-        pub plan_no_number : (fault number cell pairs count : ℕ) → (over ≡ 0 → ⊥) → fault ≡ over
-            → AppendAfterPlanned area last message ats vals fault number cell pairs count
-        unfolding append_after_fault
-        plan_no_number fault number cell pairs count ne p =
-            refuses_with fault number cell pairs count over ne p
-            (v
-            ∙ sym
-            (or_else_later (area_fault area) _ area_fine ∙ or_else_later (message_fault (length message)) _ (sym u ∙ fit)
-            ∙ or_else_first (version_fault (suc last)) _ (λ z. ne (v ∙ z))))
+      module _ (fits : 0 ≡ version_fault (suc last)) (k : ℕ) (e : k ≡ cells_in area) (number cell : ℕ) (s : number ≡ suc last) (p : cell ≡ number % k) where
+        all : CellCount (length area) k
+        all = cells_by area k e fine
 
-        module _ (fits : over ≡ 0) (cell : ℕ) (p : cell ≡ (last + 1) % k) where
-          cell_under : cell < k
-          cell_under = omega (arith, p, mod-lt (last + 1) (let z : 0 < k = omega (arith, all.some) in z))
+        cell_under : cell < k
+        cell_under = omega (arith, p, mod-lt number (let z : 0 < k = omega (arith, all.some) in z))
 
-          pub cell_room : 448 * (cell + 1) ≤ length area
-          cell_room = omega (arith, all.size, cell_under)
+        pub cell_room : 448 * (cell + 1) ≤ length area
+        cell_room = omega (arith, all.size, cell_under)
 
-          cell_is : cell ≡ suc last % cells_in area
-          cell_is = p ∙ ap₂ (λ (x y : ℕ). x % y) (add-one last) e
+        cell_is : cell ≡ suc last % cells_in area
+        cell_is = p ∙ ap₂ (λ (x y : ℕ). x % y) s e
 
-          module _ (pairs stores : ℕ) (g : PayloadPlanned area cell message pairs stores) where
-            size_is : 8 + stores ≡ length (append_after_stores (cells_in area) (word area) last message)
-            unfolding append_after_stores
-            size_is =
-                ap (λ (n : ℕ). 8 + n) g.size ∙ sym (message-length (word area) cell (suc last) message)
-                ∙ ap (λ (x : ℕ). length (message_stores (word area) x (suc last) message)) cell_is
+        module _ (pairs stores : ℕ) (g : PayloadPlanned area cell message pairs stores) where
+          size_is : 8 + stores ≡ length (append_after_stores (cells_in area) (word area) last message)
+          unfolding append_after_stores
+          size_is =
+              ap (λ (n : ℕ). 8 + n) g.size ∙ sym (message-length (word area) cell (suc last) message)
+              ∙ ap (λ (x : ℕ). length (message_stores (word area) x (suc last) message)) cell_is
 
-            pub plan_done_after : (fault : ℕ) → fault ≡ short_fault (8 + stores) ats vals
-                → AppendAfterPlanned area last message ats vals fault (last + 1) cell pairs (8 + stores)
-            unfolding append_after_fault short_fault
-            plan_done_after fault r =
-                record {
-                  refusal =
-                      r ∙ ap (λ (n : ℕ). short_fault n ats vals) size_is
-                      ∙ sym
-                      (or_else_later (area_fault area) _ area_fine ∙ or_else_later (message_fault (length message)) _ (sym u ∙ fit)
-                      ∙ or_else_later (version_fault (suc last)) _ (sym v ∙ fits));
-                  ready = λ z.
-                      let one = refuse_if_zero (ltb ats (8 + stores)) _ _ (sym r ∙ z) (omega arith) in
-                      let two = refuse_if_zero (ltb vals (8 + stores)) _ _ one.1 (omega arith) in
-                      record {
-                        next = add-one last;
-                        there = cell_is;
-                        size = size_is;
-                        room = record {
-                          payload = record {
-                            room = record {
-                              at_room = omega (arith, g.size, ltb-false ats (8 + stores) one.0);
-                              value_room = omega (arith, g.size, ltb-false vals (8 + stores) two.0);
-                            };
-                            cell = omega (arith, cell_under, all.few);
-                            inside = cell_room;
-                          };
-                          number_fits = omega (arith, number_low last over v fits);
-                          pairs_are = g.pairs_are;
-                        };
-                      };
-                }
+          pub plan_fault : (fault : ℕ) → fault ≡ short_fault (8 + stores) ats vals → fault ≡ append_after_fault area last message ats vals
+          unfolding append_after_fault
+          plan_fault fault u =
+              u ∙ ap (λ (n : ℕ). short_fault n ats vals) size_is
+              ∙ sym
+              (or_else_later (area_fault area) _ (sym fine) ∙ or_else_later (message_fault (length message)) _ (sym fit)
+              ∙ or_else_later (version_fault (suc last)) _ (sym fits))
+
+          pub plan_ready : 0 ≡ short_fault (8 + stores) ats vals → AppendAfterReady area last message ats vals number cell pairs (8 + stores)
+          unfolding short_fault
+          plan_ready z =
+              let one = refuse_if_zero (ltb ats (8 + stores)) _ _ (sym z) (omega arith) in
+              let two = refuse_if_zero (ltb vals (8 + stores)) _ _ one.1 (omega arith) in
+              record {
+                next = s;
+                there = cell_is;
+                size = size_is;
+                room = record {
+                  payload = record {
+                    room = record {
+                      at_room = omega (arith, g.size, ltb-false ats (8 + stores) one.0);
+                      value_room = omega (arith, g.size, ltb-false vals (8 + stores) two.0);
+                    };
+                    cell = omega (arith, cell_under, all.few);
+                    inside = cell_room;
+                  };
+                  number_fits = omega (arith, s, number_low last fits);
+                  pairs_are = g.pairs_are;
+                };
+              }
 
 -- ---- the call
 
-module _ (area : List ℕ) (last : ℕ) (message at value : List ℕ) (fault number cell pairs count : ℕ)
-    (g : AppendAfterPlanned area last message (length at) (length value) fault number cell pairs count) where
-  pub after_refused : (fault ≡ 0 → ⊥) → log_end (refused fault) at value ≡ append_after_result area last message at value
+module _ (area : List ℕ) (last : ℕ) (message at value : List ℕ) where
+  pub after_refused : (fault : ℕ) → fault ≡ append_after_fault area last message (length at) (length value) → (fault ≡ 0 → ⊥)
+      → log_end (refused fault) at value ≡ append_after_result area last message at value
   unfolding append_after_result
-  after_refused ne = hand_refused _ _ _ at value fault g.refusal ne
+  after_refused fault u ne = hand_refused _ _ _ at value fault u ne
 
-  module _ (z : fault ≡ 0) where
-    ready : AppendAfterReady area last message (length at) (length value) number cell pairs count
-    ready = g.ready z
-
+  module _ (fine : 0 ≡ append_after_fault area last message (length at) (length value)) (number cell pairs count : ℕ)
+      (ready : AppendAfterReady area last message (length at) (length value) number cell pairs count) where
     stores_are : message_stores (word area) cell number message ≡ append_after_stores (cells_in area) (word area) last message
     unfolding append_after_stores
     stores_are = ap₂ (λ (x y : ℕ). message_stores (word area) x y message) ready.there ready.next
@@ -331,64 +319,80 @@ module _ (area : List ℕ) (last : ℕ) (message at value : List ℕ) (fault num
         → log_end (gives (number ∷ count ∷ [])) at' value' ≡ append_after_result area last message at value
     unfolding append_after_result
     after_taken at' value' f =
-        hand_done _ _ (append_after_stores (cells_in area) (word area) last message) at value at' value' number count (sym g.refusal ∙ z) ready.next
+        hand_done _ _ (append_after_stores (cells_in area) (word area) last message) at value at' value' number count (sym fine) ready.next
         ready.size (subst (Filled at value at' value' 0) stores_are f)
         (omega (arith, ready.room.payload.room.at_room, long)) (omega (arith, ready.room.payload.room.value_room, long))
 
 -- ---- append: append_after of the highest complete number
 
+module _ (area message : List ℕ) (ats vals number cell pairs count : ℕ) where
+  ready_highest : AppendAfterReady area (highest (cells_in area) (word area)) message ats vals number cell pairs count
+      → AppendReady area message ats vals number cell pairs count
+  unfolding append_after_stores next_message append_stores
+  ready_highest r = record { next = r.next; there = r.there; size = r.size; room = r.room }
+
+  highest_ready : AppendReady area message ats vals number cell pairs count
+      → AppendAfterReady area (highest (cells_in area) (word area)) message ats vals number cell pairs count
+  unfolding append_after_stores next_message append_stores
+  highest_ready r = record { next = r.next; there = r.there; size = r.size; room = r.room }
+
 -- the plans are the same
-module _ (area message : List ℕ) (ats vals fault number cell pairs count : ℕ) where
-  planned_highest : AppendAfterPlanned area (highest (cells_in area) (word area)) message ats vals fault number cell pairs count
-      → AppendPlanned area message ats vals fault number cell pairs count
-  unfolding append_after_stores append_after_fault next_message append_stores append_fault
-  planned_highest g =
-      record {
-        refusal = g.refusal;
-        ready = λ z. let r = g.ready z in record { next = r.next; there = r.there; size = r.size; room = r.room };
-      }
+module _ (area message : List ℕ) (ats vals k : ℕ) (e : k ≡ cells_in area) (top : ℕ) (f : top ≡ highest k (word area)) where
+  top_is : top ≡ highest (cells_in area) (word area)
+  top_is = f ∙ ap (λ (j : ℕ). highest j (word area)) e
 
-  highest_planned : AppendPlanned area message ats vals fault number cell pairs count
-      → AppendAfterPlanned area (highest (cells_in area) (word area)) message ats vals fault number cell pairs count
-  unfolding append_after_stores append_after_fault next_message append_stores append_fault
-  highest_planned g =
-      record {
-        refusal = g.refusal;
-        ready = λ z. let r = g.ready z in record { next = r.next; there = r.there; size = r.size; room = r.room };
-      }
+  pub fault_by : (fault : ℕ) → fault ≡ append_after_fault area top message ats vals → fault ≡ append_fault area message ats vals
+  fault_by fault u = u ∙ ap (λ (n : ℕ). append_after_fault area n message ats vals) top_is ∙ after_highest.fault area message ats vals
 
-  module _ (k : ℕ) (e : k ≡ cells_in area) where
-    pub planned_no_area : k ≡ 0 → fault ≡ 30 → AppendPlanned area message ats vals fault number cell pairs count
-    planned_no_area z p = planned_highest (plan_no_area area (highest (cells_in area) (word area)) message ats vals k e fault number cell pairs count z p)
-
-    pub planned_by : (top : ℕ) → top ≡ highest k (word area) → AppendAfterPlanned area top message ats vals fault number cell pairs count
-        → AppendPlanned area message ats vals fault number cell pairs count
-    planned_by top f g =
-        planned_highest
-        (subst (λ (n : ℕ). AppendAfterPlanned area n message ats vals fault number cell pairs count) (f ∙ ap (λ (j : ℕ). highest j (word area)) e) g)
+  pub ready_by : (r : Result AppendPlan Refusal)
+      → IfOk r (λ p. AppendAfterReady area top message ats vals p.number p.cell p.pairs p.count)
+      → IfOk r (λ p. AppendReady area message ats vals p.number p.cell p.pairs p.count)
+  ready_by r =
+      IfOk-weaker r _ _
+      (λ p g.
+      ready_highest area message ats vals p.number p.cell p.pairs p.count
+      (subst (λ (n : ℕ). AppendAfterReady area n message ats vals p.number p.cell p.pairs p.count) top_is g))
 
 -- an append whose payload is planned is planned
 module _ (area message : List ℕ) (ats vals k : ℕ) (e : k ≡ cells_in area) (some : k ≡ 0 → ⊥) (unfit : ℕ) (u : unfit ≡ message_fault (length message))
     (fit : unfit ≡ 0) (top : ℕ) (f : top ≡ highest k (word area)) (over : ℕ) (v : over ≡ version_fault (top + 1)) (fits : over ≡ 0) (cell : ℕ)
     (p : cell ≡ (top + 1) % k) (pairs stores : ℕ) (g : PayloadPlanned area cell message pairs stores) where
+  fine : 0 ≡ area_fault area
+  fine = sym (is_area area k e some)
+
+  low : 0 ≡ version_fault (suc top)
+  low = sym fits ∙ v ∙ ap version_fault (add-one top)
+
   pub plan_done : (fault : ℕ) → fault ≡ short_fault (8 + stores) ats vals
-      → AppendPlanned area message ats vals fault (top + 1) cell pairs (8 + stores)
-  plan_done fault r =
-      planned_by area message ats vals fault (top + 1) cell pairs (8 + stores) k e top f
-      (plan_done_after area top message ats vals k e some unfit u fit over (v ∙ ap version_fault (add-one top)) fits cell p pairs stores g fault r)
+      → (fault ≡ append_fault area message ats vals) × (fault ≡ 0 → AppendReady area message ats vals (top + 1) cell pairs (8 + stores))
+  plan_done fault r = (
+    fault_by area message ats vals k e top f fault
+    (plan_fault area top message ats vals fine (sym fit ∙ u) low k e (top + 1) cell (add-one top) p pairs stores g fault r),
+    (λ z.
+    ready_highest area message ats vals (top + 1) cell pairs (8 + stores)
+    (subst (λ (n : ℕ). AppendAfterReady area n message ats vals (top + 1) cell pairs (8 + stores)) (top_is area message ats vals k e top f)
+    (plan_ready area top message ats vals fine (sym fit ∙ u) low k e (top + 1) cell (add-one top) p pairs stores g (sym z ∙ r)))),
+  )
 
-module _ (area message at value : List ℕ) (fault number cell pairs count : ℕ)
-    (g : AppendPlanned area message (length at) (length value) fault number cell pairs count) where
-  after : AppendAfterPlanned area (highest (cells_in area) (word area)) message (length at) (length value) fault number cell pairs count
-  after = highest_planned area message (length at) (length value) fault number cell pairs count g
+module _ (area message : List ℕ) where
+  pub no_area_first : (ats vals fault : ℕ) → fault ≡ area_fault area → (fault ≡ 0 → ⊥) → fault ≡ append_fault area message ats vals
+  unfolding append_fault
+  no_area_first ats vals fault u ne = u ∙ sym (or_else_first (area_fault area) _ (λ z. ne (u ∙ z)))
 
-  pub append_refused : (fault ≡ 0 → ⊥) → log_end (refused fault) at value ≡ append_result area message at value
-  append_refused ne =
-      after_refused area (highest (cells_in area) (word area)) message at value fault number cell pairs count after ne
+module _ (area message at value : List ℕ) where
+  pub append_refused : (fault : ℕ) → fault ≡ append_fault area message (length at) (length value) → (fault ≡ 0 → ⊥)
+      → log_end (refused fault) at value ≡ append_result area message at value
+  append_refused fault u ne =
+      after_refused area (highest (cells_in area) (word area)) message at value fault
+      (u ∙ sym (after_highest.fault area message (length at) (length value))) ne
       ∙ after_highest.result area message at value
 
-  pub append_taken : fault ≡ 0 → (at' value' : List ℕ) → Filled at value at' value' 0 (message_stores (word area) cell number message)
+  pub append_taken : 0 ≡ append_fault area message (length at) (length value) → (number cell pairs count : ℕ)
+      → AppendReady area message (length at) (length value) number cell pairs count
+      → (at' value' : List ℕ) → Filled at value at' value' 0 (message_stores (word area) cell number message)
       → log_end (gives (number ∷ count ∷ [])) at' value' ≡ append_result area message at value
-  append_taken z at' value' f =
-      after_taken area (highest (cells_in area) (word area)) message at value fault number cell pairs count after z at' value' f
+  append_taken fine number cell pairs count ready at' value' f =
+      after_taken area (highest (cells_in area) (word area)) message at value
+      (fine ∙ sym (after_highest.fault area message (length at) (length value)))
+      number cell pairs count (highest_ready area message (length at) (length value) number cell pairs count ready) at' value' f
       ∙ after_highest.result area message at value

@@ -8,6 +8,12 @@ use native.Mathlib.Omega.{arith}
 use lib.ListN.{length, take, drop, length-drop}
 use lib.Seq.{length-take-le}
 use borrow.Author.Tests.{not-false}
+use Rattle.std.specs.Prelude.{Result, Ok, Err}
+use Rattle.std.specs.Result.{IsErrAnd}
+use Rattle.refusals.specs.declared.Refusal.{Refusal}
+use Rattle.refusals.specs.Number.{number_of}
+use Rattle.refusals.proofs.Numbers.{not_zero}
+use Rattle.message_log.specs.declared.Part.{Part}
 use Rattle.prelude.specs.Refusal.{refuse_if}
 use Rattle.prelude.specs.Answer.{Answer, gives, refused}
 use Rattle.prelude.proofs.Choice.{both_right}
@@ -15,24 +21,23 @@ use Rattle.prelude.proofs.Refusals.{refuse_if_zero, or_else_first, or_else_zero,
 use Rattle.words.specs.Word.{word}
 use Rattle.message_log.specs.Area.{cells_in, area_fault, marked_line}
 use Rattle.message_log.specs.Message.{in_window, highest, shown, message_start, message_in}
-use Rattle.message_log.specs.Read.{read_fault, read_part, read_end, read_result, part_result}
+use Rattle.message_log.specs.Read.{read_fault, read_part, read_end, read_says, read_result, part_says, part_result}
 use Rattle.message_log.specs.Rule.{PartHolds}
-use Rattle.message_log.specs.inner.Needs.{CellCount, Readable}
+use Rattle.message_log.specs.inner.Needs.{Readable}
 use Rattle.message_log.proofs.Cells.{held}
-use Rattle.message_log.proofs.Parts.{area_cells, no_area, is_area, read-fault, read_shown}
+use Rattle.message_log.proofs.Parts.{area_cells, read-fault, read_shown}
 
 -- ---- the refusals
 
-module _ (area : List ℕ) (number k : ℕ) (e : k ≡ cells_in area) where
-  pub read_no_area : k ≡ 0 → 30 ≡ read_fault area number
+module _ (area : List ℕ) (number : ℕ) where
+  pub read_no_area : (fault : ℕ) → fault ≡ area_fault area → (fault ≡ 0 → ⊥) → fault ≡ read_fault area number
   unfolding read_fault
-  read_no_area z = sym (or_else_first (area_fault area) _ (λ q. omega (arith, no_area area k e z)) ∙ no_area area k e z)
+  read_no_area fault u ne = u ∙ sym (or_else_first (area_fault area) _ (λ z. ne (u ∙ z)))
 
-  module _ (ne : k ≡ 0 → ⊥) (t : Bool) (f : t ≡ shown k (word area) number) where
+  module _ (fine : 0 ≡ area_fault area) (k : ℕ) (e : k ≡ cells_in area) (t : Bool) (f : t ≡ shown k (word area) number) where
     by_shown : read_fault area number ≡ refuse_if (not t) 31 0
     by_shown =
-        read-fault area (is_area area k e ne) number
-        ∙ ap (λ (u : Bool). refuse_if (not u) 31 0) (sym (f ∙ ap (λ (j : ℕ). shown j (word area) number) e))
+        read-fault area (sym fine) number ∙ ap (λ (u : Bool). refuse_if (not u) 31 0) (sym (f ∙ ap (λ (j : ℕ). shown j (word area) number) e))
 
     pub read_accepted : t ≡ true → 0 ≡ read_fault area number
     unfolding refuse_if
@@ -44,72 +49,77 @@ module _ (area : List ℕ) (number k : ℕ) (e : k ≡ cells_in area) where
 
 -- ---- the part
 
-module _ (area : List ℕ) (number f : ℕ) (e : f ≡ read_fault area number) where
-  pub part_refused : (x : List ℕ) → (f ≡ 0 → ⊥) → x ≡ [] → read_end x f ≡ read_result area number
-  unfolding read_result read_part
-  part_refused x ne q =
-      ap₂ read_end (q ∙ sym (refused_keeps (message_in area (number % cells_in area)) [] (read_fault area number) (λ z. ne (e ∙ z)))) e
+module _ (area : List ℕ) (number : ℕ) where
+  module _ (fault : ℕ) (u : fault ≡ read_fault area number) (ne : fault ≡ 0 → ⊥) where
+    pub part_refused : read_end [] fault ≡ read_result area number
+    unfolding read_result read_part
+    part_refused = ap₂ read_end (sym (refused_keeps (message_in area (number % cells_in area)) [] (read_fault area number) (λ z. ne (u ∙ z)))) u
 
-  module _ (z : f ≡ 0) where
+    pub find_refused : refused fault ≡ part_result area number
+    unfolding part_result
+    find_refused = ap refused u ∙ sym (refused_keeps _ (refused (read_fault area number)) (read_fault area number) (λ z. ne (u ∙ z)))
+
+  -- a refusal that a `?` hands on
+  module _ (e : Refusal) (u : number_of e ≡ read_fault area number) where
+    pub read_handed : {A : Type 0} (bytes : A → List ℕ) (r : Result A Refusal) → IsErrAnd r (λ y. y ≡ e) → read_says bytes r ≡ read_result area number
+    unfolding read_says
+    read_handed bytes (Ok part) h = absurd h
+    read_handed bytes (Err refusal) h = ap (λ (y : Refusal). read_end [] (number_of y)) h ∙ part_refused (number_of e) u (not_zero e)
+
+    pub find_handed : (r : Result Part Refusal) → IsErrAnd r (λ y. y ≡ e) → part_says r ≡ part_result area number
+    unfolding part_says
+    find_handed (Ok part) h = absurd h
+    find_handed (Err refusal) h = ap (λ (y : Refusal). refused (number_of y)) h ∙ find_refused (number_of e) u (not_zero e)
+
+  module _ (accepted : 0 ≡ read_fault area number) where
     fine : area_fault area ≡ 0
     unfolding read_fault
-    fine = (or_else_zero _ _ (sym e ∙ z)).0
+    fine = (or_else_zero _ _ (sym accepted)).0
 
     is_shown : shown (cells_in area) (word area) number ≡ true
-    is_shown = not-false _ (refuse_if_zero _ _ _ (sym (read-fault area fine number) ∙ sym e ∙ z) (omega arith)).0
+    is_shown = not-false _ (refuse_if_zero _ _ _ (sym (read-fault area fine number) ∙ sym accepted) (omega arith)).0
 
-    pub part_cells : (k : ℕ) → k ≡ cells_in area → CellCount (length area) k
-    part_cells k q = subst (CellCount (length area)) (sym q) (area_cells area fine)
+    module _ (c : ℕ) (p : c ≡ number % cells_in area) where
+      pub part_readable : Readable area c
+      unfolding shown
+      part_readable =
+          let all = area_cells area fine in
+          let under : number % cells_in area < cells_in area = mod-lt number (omega (arith, all.some)) in
+          record {
+            inside = omega (arith, p, all.size, under);
+            short =
+                subst (λ (x : ℕ). marked_line (word area) x 1 ≤ 384) (sym p)
+                (held (word area) (number % cells_in area) number
+                (both_right (in_window (cells_in area) (highest (cells_in area) (word area)) number) _ is_shown)).size_high;
+          }
 
-    pub part_readable : (k c : ℕ) → k ≡ cells_in area → c ≡ number % k → Readable area c
-    unfolding shown
-    part_readable k c q p =
-        let all = part_cells k q in
-        let under : number % k < k = mod-lt number (omega (arith, all.some)) in
-        record {
-          inside = omega (arith, all.size, under);
-          short =
-              subst (λ (x : ℕ). marked_line (word area) x 1 ≤ 384) (ap (λ (j : ℕ). number % j) (sym q) ∙ sym p)
-              (held (word area) (number % cells_in area) number
-              (both_right (in_window (cells_in area) (highest (cells_in area) (word area)) number) _ is_shown)).size_high;
-        }
+      pub part_taken : (x : List ℕ) → x ≡ message_in area c → read_end x 0 ≡ read_result area number
+      unfolding read_result read_part
+      part_taken x r =
+          ap₂ read_end
+          (r ∙ ap (message_in area) p ∙ sym (taken_leaves (message_in area (number % cells_in area)) [] (read_fault area number) (sym accepted)))
+          accepted
 
-    pub part_taken : (x : List ℕ) (k c : ℕ) → k ≡ cells_in area → c ≡ number % k → x ≡ message_in area c → read_end x f ≡ read_result area number
-    unfolding read_result read_part
-    part_taken x k c q p r =
-        ap₂ read_end
-        (r ∙ ap (message_in area) (p ∙ ap (λ (j : ℕ). number % j) q)
-        ∙ sym (taken_leaves (message_in area (number % cells_in area)) [] (read_fault area number) (sym e ∙ z)))
-        e
-
-    pub find_taken : (r : Answer) (k c : ℕ) → k ≡ cells_in area → c ≡ number % k → r ≡ gives (message_start c ∷ marked_line (word area) c 1 ∷ [])
-        → r ≡ part_result area number
-    unfolding part_result
-    find_taken r k c q p s =
-        s ∙ ap (λ (x : ℕ). gives (message_start x ∷ marked_line (word area) x 1 ∷ [])) (p ∙ ap (λ (j : ℕ). number % j) q)
-        ∙ sym (taken_leaves _ (refused (read_fault area number)) (read_fault area number) (sym e ∙ z))
-
-  pub find_refused : (f ≡ 0 → ⊥) → refused f ≡ part_result area number
-  unfolding part_result
-  find_refused ne = ap refused e ∙ sym (refused_keeps _ (refused (read_fault area number)) (read_fault area number) (λ z. ne (e ∙ z)))
+      pub find_taken : (r : Answer) → r ≡ gives (message_start c ∷ marked_line (word area) c 1 ∷ []) → r ≡ part_result area number
+      unfolding part_result
+      find_taken r s =
+          s ∙ ap (λ (x : ℕ). gives (message_start x ∷ marked_line (word area) x 1 ∷ [])) p
+          ∙ sym (taken_leaves _ (refused (read_fault area number)) (read_fault area number) (sym accepted))
 
 -- ---- what is answered of a number by whether it is shown
 
 module _ (area : List ℕ) (fine : area_fault area ≡ 0) (s : ℕ) where
-  some : cells_in area ≡ 0 → ⊥
-  some z = omega (arith, (area_cells area fine).some)
-
   -- shown
   module _ (e : shown (cells_in area) (word area) s ≡ true) where
     accepted : read_fault area s ≡ 0
-    accepted = sym (read_accepted area s (cells_in area) refl some true (sym e) refl)
+    accepted = sym (read_accepted area s (sym fine) (cells_in area) refl true (sym e) refl)
 
     is_part : read_part area s ≡ take (marked_line (word area) (s % cells_in area) 1) (drop (message_start (s % cells_in area)) area)
     unfolding message_in
     is_part = read_shown area fine s e
 
     readable : Readable area (s % cells_in area)
-    readable = part_readable area s 0 (sym accepted) refl (cells_in area) (s % cells_in area) refl refl
+    readable = part_readable area s (sym accepted) (s % cells_in area) refl
 
     part_length : length (read_part area s) ≡ marked_line (word area) (s % cells_in area) 1
     part_length =
@@ -131,8 +141,8 @@ module _ (area : List ℕ) (fine : area_fault area ≡ 0) (s : ℕ) where
   -- not shown
   pub no_part : shown (cells_in area) (word area) s ≡ false → (read_result area s ≡ read_end [] 31) × (part_result area s ≡ refused 31)
   no_part e =
-      let f : 31 ≡ read_fault area s = read_not_shown area s (cells_in area) refl some false (sym e) refl in
-      (sym (part_refused area s 31 f [] (λ (z : 31 ≡ 0). omega arith) refl), sym (find_refused area s 31 f (λ (z : 31 ≡ 0). omega arith)))
+      let f : 31 ≡ read_fault area s = read_not_shown area s (sym fine) (cells_in area) refl false (sym e) refl in
+      (sym (part_refused area s 31 f (λ (z : 31 ≡ 0). omega arith)), sym (find_refused area s 31 f (λ (z : 31 ≡ 0). omega arith)))
 
 -- the part that the code takes
 pub part_is : (area : List ℕ) (c size : ℕ) → size ≡ word area (8 * (7 * c) + 1)

@@ -23,7 +23,7 @@ use Rattle.message_log.specs.LogOutcome.{short_fault, log_end}
 use Rattle.message_log.specs.Recover.{is_above, invalidation, invalidations, recovery_stores, log_recover_fault, log_recover_result}
 use Rattle.message_log.specs.inner.Needs.{Filled, ListRoom, InvalidationsRoom}
 use Rattle.message_log.proofs.Invalidations.{opens, passes}
-use Rattle.message_log.proofs.Parts.{no_area, is_area, cells_by}
+use Rattle.message_log.proofs.Parts.{cells_by}
 use Rattle.stores.proofs.Lists.{StoresFill, stores_begin, stores_on, stores_end, stores_room}
 use Rattle.message_log.proofs.Fillings.{filled, hand_refused, hand_done}
 
@@ -178,48 +178,48 @@ module _ (m : ℕ → ℕ) (top : ℕ) where
 
 -- ---- the call
 
-module _ (area at value : List ℕ) (k : ℕ) (e : k ≡ cells_in area) where
-  pub recover_no_area : k ≡ 0 → log_end (refused 30) at value ≡ log_recover_result area at value
+module _ (area at value : List ℕ) where
+  pub recover_no_area : (fault : ℕ) → fault ≡ area_fault area → (fault ≡ 0 → ⊥) → log_end (refused fault) at value ≡ log_recover_result area at value
   unfolding log_recover_result log_recover_fault
-  recover_no_area z =
-      hand_refused _ _ _ at value 30 (sym (or_else_first (area_fault area) _ (λ q. omega (arith, no_area area k e z)) ∙ no_area area k e z)) (λ x. omega arith)
+  recover_no_area fault u ne = hand_refused _ _ _ at value fault (u ∙ sym (or_else_first (area_fault area) _ (λ z. ne (u ∙ z)))) ne
 
-  module _ (ne : k ≡ 0 → ⊥) (top count fault : ℕ) (f : top ≡ highest k (word area)) (g : count ≡ length (invalidations (word area) top 0 k))
-      (r : fault ≡ short_fault count (length at) (length value)) where
-    top_is : top ≡ highest (cells_in area) (word area)
-    top_is = f ∙ ap (λ (j : ℕ). highest j (word area)) e
+  module _ (fine : 0 ≡ area_fault area) (k : ℕ) (e : k ≡ cells_in area) where
+    module _ (top count : ℕ) (f : top ≡ highest k (word area)) (g : count ≡ length (invalidations (word area) top 0 k)) where
+      top_is : top ≡ highest (cells_in area) (word area)
+      top_is = f ∙ ap (λ (j : ℕ). highest j (word area)) e
 
-    stores_are : invalidations (word area) top 0 k ≡ recovery_stores (cells_in area) (word area)
-    unfolding recovery_stores
-    stores_are = ap₂ (λ (x y : ℕ). invalidations (word area) x 0 y) top_is e
+      stores_are : invalidations (word area) top 0 k ≡ recovery_stores (cells_in area) (word area)
+      unfolding recovery_stores
+      stores_are = ap₂ (λ (x y : ℕ). invalidations (word area) x 0 y) top_is e
 
-    fault_is : fault ≡ log_recover_fault area (length at) (length value)
-    unfolding log_recover_fault
-    fault_is =
-        r ∙ ap (λ (n : ℕ). short_fault n (length at) (length value)) (g ∙ ap length stores_are) ∙ sym (or_else_later (area_fault area) _ (is_area area k e ne))
+      fault_is : (fault : ℕ) → fault ≡ short_fault count (length at) (length value) → fault ≡ log_recover_fault area (length at) (length value)
+      unfolding log_recover_fault
+      fault_is fault r =
+          r ∙ ap (λ (n : ℕ). short_fault n (length at) (length value)) (g ∙ ap length stores_are) ∙ sym (or_else_later (area_fault area) _ (sym fine))
 
-    pub recover_short : (fault ≡ 0 → ⊥) → log_end (refused fault) at value ≡ log_recover_result area at value
-    unfolding log_recover_result
-    recover_short n = hand_refused _ _ _ at value fault fault_is n
+      pub recover_short : (fault : ℕ) → fault ≡ short_fault count (length at) (length value) → (fault ≡ 0 → ⊥)
+          → log_end (refused fault) at value ≡ log_recover_result area at value
+      unfolding log_recover_result
+      recover_short fault r ne = hand_refused _ _ _ at value fault (fault_is fault r) ne
 
-    pub recover_room : fault ≡ 0 → InvalidationsRoom area (length at) (length value) k top
-    unfolding short_fault
-    recover_room z =
-        let one = refuse_if_zero (ltb (length at) count) _ _ (sym r ∙ z) (omega arith) in
-        let two = refuse_if_zero (ltb (length value) count) _ _ one.1 (omega arith) in
-        record {
-          all = cells_by area k e ne;
-          room = record {
-            at_room = omega (arith, g, ltb-false (length at) count one.0);
-            value_room = omega (arith, g, ltb-false (length value) count two.0);
-          };
-        }
+      module _ (r : 0 ≡ short_fault count (length at) (length value)) where
+        pub recover_room : InvalidationsRoom area (length at) (length value) k top
+        unfolding short_fault
+        recover_room =
+            let one = refuse_if_zero (ltb (length at) count) _ _ (sym r) (omega arith) in
+            let two = refuse_if_zero (ltb (length value) count) _ _ one.1 (omega arith) in
+            record {
+              all = cells_by area k e fine;
+              room = record {
+                at_room = omega (arith, g, ltb-false (length at) count one.0);
+                value_room = omega (arith, g, ltb-false (length value) count two.0);
+              };
+            }
 
-    pub recover_done : (at' value' : List ℕ) → fault ≡ 0 → Filled at value at' value' 0 (invalidations (word area) top 0 k)
-        → log_end (gives (top ∷ count ∷ [])) at' value' ≡ log_recover_result area at value
-    unfolding log_recover_result
-    recover_done at' value' z h =
-        let room = recover_room z in
-        hand_done _ _ (recovery_stores (cells_in area) (word area)) at value at' value' top count (sym fault_is ∙ z) top_is (g ∙ ap length stores_are)
-        (subst (Filled at value at' value' 0) stores_are h) (omega (arith, room.room.at_room, ap length stores_are))
-        (omega (arith, room.room.value_room, ap length stores_are))
+        pub recover_done : (at' value' : List ℕ) → Filled at value at' value' 0 (invalidations (word area) top 0 k)
+            → log_end (gives (top ∷ count ∷ [])) at' value' ≡ log_recover_result area at value
+        unfolding log_recover_result
+        recover_done at' value' h =
+            hand_done _ _ (recovery_stores (cells_in area) (word area)) at value at' value' top count (sym (fault_is 0 r)) top_is (g ∙ ap length stores_are)
+            (subst (Filled at value at' value' 0) stores_are h) (omega (arith, recover_room.room.at_room, ap length stores_are))
+            (omega (arith, recover_room.room.value_room, ap length stores_are))

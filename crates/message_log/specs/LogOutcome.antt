@@ -1,18 +1,19 @@
 -- What append and recovery answer, and what they leave in the lists that are lent for their stores. Document 02, A.10:
 -- "Stores .. are lent and played as for a basket".
-use Rattle.std.specs.Prelude.{List, [], ◌∷◌, ◌++◌, ℕ, ltb, length, drop}
+use Rattle.std.specs.Prelude.{List, [], ◌∷◌, ◌++◌, ℕ, ltb, length, drop, Result, Ok, Err}
 use Rattle.prelude.specs.Refusal.{refuse_if, unless_refused}
 use Rattle.prelude.specs.Answer.{Answer, gives, refused}
 use Rattle.stores.specs.Store.{Store}
 use Rattle.stores.specs.Play.{word_numbers, values}
-use Rattle.message_log.specs.declared.LogOutcome.{LogOutcome}
-use Rattle.message_log.specs.declared.LogOutcome.TheVariants.{Stored, Refused}
+use Rattle.refusals.specs.declared.Refusal.{Refusal}
+use Rattle.refusals.specs.Number.{number_of}
+use Rattle.message_log.specs.declared.LogStored.{LogStored}
 
 -- "An append answers its number and its count of stores, recovery the highest complete number, 0 if none, and its
 -- count"
-unfoldable pub log_answer : LogOutcome → Answer
-log_answer (Stored number count) = gives (number ∷ count ∷ [])
-log_answer (Refused number) = refused number
+unfoldable pub log_answer : Result LogStored Refusal → Answer
+log_answer (Ok stored) = gives (stored.number ∷ stored.count ∷ [])
+log_answer (Err refusal) = refused (number_of refusal)
 
 -- "13 for a list shorter than the stores": of this many stores, in lists of these lengths
 unfoldable pub short_fault : (count ats vals : ℕ) → ℕ

@@ -1,13 +1,14 @@
 -- Read: its refusals and its part. Document 02, A.10: "A read answers the message as the part of the lent area that
 -- holds it."
-use Rattle.std.specs.Prelude.{not, List, [], ◌∷◌, ℕ, ◌%◌}
+use Rattle.std.specs.Prelude.{not, List, [], ◌∷◌, ℕ, ◌%◌, Result, Ok, Err}
 use Rattle.prelude.specs.Refusal.{refuse_if, or_else, unless_refused}
 use Rattle.prelude.specs.Answer.{Answer, gives, refused}
 use Rattle.words.specs.Word.{word}
 use Rattle.message_log.specs.Area.{cells_in, area_fault, marked_line}
 use Rattle.message_log.specs.Message.{shown, message_start, message_in}
+use Rattle.refusals.specs.declared.Refusal.{Refusal}
+use Rattle.refusals.specs.Number.{number_of}
 use Rattle.message_log.specs.declared.Part.{Part}
-use Rattle.message_log.specs.declared.Part.TheVariants.{At, Refused}
 
 -- 30, then "31 when a number read is not shown"
 unfoldable pub read_fault : (area : List ℕ) → (number : ℕ) → ℕ
@@ -17,7 +18,7 @@ read_fault area number = or_else (area_fault area) (refuse_if (not (shown (cells
 unfoldable pub read_part : (area : List ℕ) → (number : ℕ) → List ℕ
 read_part area number = unless_refused (read_fault area number) (message_in area (number % cells_in area)) []
 
--- the part, and the refusal in the lent number, 0 for none
+-- the part, and the number of the refusal, 0 for none
 pub record ReadResult : Type 0 where
   pub part : List ℕ
   pub refusal : ℕ
@@ -26,15 +27,20 @@ pub record ReadResult : Type 0 where
 abbrev pub read_end : (part : List ℕ) → (refusal : ℕ) → ReadResult
 read_end part refusal = record { part = part; refusal = refusal }
 
+-- what a read answers: a part, or the refusal. The part's bytes are got by `bytes`
+unfoldable pub read_says : {A : Type 0} → (bytes : A → List ℕ) → Result A Refusal → ReadResult
+read_says bytes (Ok part) = read_end (bytes part) 0
+read_says bytes (Err refusal) = read_end [] (number_of refusal)
+
 unfoldable pub read_result : (area : List ℕ) → (number : ℕ) → ReadResult
 read_result area number = read_end (read_part area number) (read_fault area number)
 
 -- ---- the same by numbers, for a caller that cannot be given a part
 
 -- at which byte of the area the part starts and how many bytes it has, or the refusal
-unfoldable pub part_says : Part → Answer
-part_says (At start size) = gives (start ∷ size ∷ [])
-part_says (Refused number) = refused number
+unfoldable pub part_says : Result Part Refusal → Answer
+part_says (Ok part) = gives (part.start ∷ part.size ∷ [])
+part_says (Err refusal) = refused (number_of refusal)
 
 unfoldable pub part_result : (area : List ℕ) → (number : ℕ) → Answer
 part_result area number =

@@ -1,18 +1,20 @@
 // The raw message log: types, definitions and laws. Document 02, A.10.
 #![tactic(auto)]
 
-// What append and recovery answer: a number and the count of the stores, or the number of the refusal.
+use refusals::Refusal;
+
+// What append and recovery answer: a number and the count of the stores.
 #[derive(Clone, Copy)]
-pub enum LogOutcome {
-    Stored { number: u64, count: usize },
-    Refused(u32),
+pub struct LogStored {
+    pub number: u64,
+    pub count: usize,
 }
 
-// Where a message stands in the area: at which byte it starts and how many bytes it has; or the number of the refusal.
+// Where a message stands in the area: at which byte it starts and how many bytes it has.
 #[derive(Clone, Copy)]
-pub enum Part {
-    At { start: usize, size: usize },
-    Refused(u32),
+pub struct Part {
+    pub start: usize,
+    pub size: usize,
 }
 
 // Word 2 of the marked line of a message, and how many stores its payload lines have.
@@ -22,11 +24,9 @@ pub struct Payload {
     pub count: usize,
 }
 
-// What an append reads before it writes: its refusal, 0 for none; and where there is none its number, its cell, word 2
-// of its marked line, and the count of its stores.
+// What an append reads before it writes: its number, its cell, word 2 of its marked line, and the count of its stores.
 #[derive(Clone, Copy)]
 pub struct AppendPlan {
-    pub fault: u32,
     pub number: u64,
     pub cell: usize,
     pub pairs: u64,
@@ -37,7 +37,7 @@ pub struct AppendPlan {
 // `value` their values.
 #[derive(Clone, Copy)]
 pub struct AppendMade {
-    pub answer: LogOutcome,
+    pub answer: Result<LogStored, Refusal>,
     pub stored: usize,
     pub at: [u32; 56],
     pub value: [u64; 56],
@@ -46,7 +46,7 @@ pub struct AppendMade {
 // The same of a recovery, which has a store for each cell at most.
 #[derive(Clone, Copy)]
 pub struct RecoveryMade {
-    pub answer: LogOutcome,
+    pub answer: Result<LogStored, Refusal>,
     pub stored: usize,
     pub at: [u32; 1000],
     pub value: [u64; 1000],

@@ -6,7 +6,7 @@ ghost use Rattle.message_log.specs.Recover.{log_recover_result};
 ghost use Rattle.message_log.specs.Read.{part_result};
 ghost use Rattle.log_exports.specs.Call.{hand_left, hand_call, part_left, part_call};
 
-use log_code::{LogOutcome, Part, append, append_after, find, recover_log};
+use log_code::{LogStored, Part, append, append_after, find, recover_log};
 
 // The message is appended; the answer is its number and the count of its stores, which fill the front of the lists and
 // are to be made by the caller.
@@ -21,13 +21,12 @@ pub extern "C" fn orderset_proved_log_append(
     ensures result { hand_left result answer.new at.new value.new
         ≡ hand_call (append_result area.now message.now at.old value.old) answer.old }
 {
-    let handed = append(area, message, at, value);
-    match handed {
-        LogOutcome::Refused(refusal) => refusal,
-        LogOutcome::Stored { number, count } => {
+    match append(area, message, at, value) {
+        Ok(LogStored { number, count }) => {
             *answer = [number, count as u64];
             0
         }
+        Err(refusal) => refusal.number(),
     }
 }
 
@@ -44,16 +43,12 @@ pub extern "C" fn orderset_proved_log_append_after(
     ensures result { hand_left result answer.new at.new value.new
         ≡ hand_call (append_after_result area.now last message.now at.old value.old) answer.old }
 {
-    let handed = append_after(area, last, message, at, value);
-    match handed {
-        LogOutcome::Refused(refusal) => refusal,
-        LogOutcome::Stored {
-            number: next,
-            count,
-        } => {
-            *answer = [next, count as u64];
+    match append_after(area, last, message, at, value) {
+        Ok(stored) => {
+            *answer = [stored.number, stored.count as u64];
             0
         }
+        Err(refusal) => refusal.number(),
     }
 }
 
@@ -68,13 +63,12 @@ pub extern "C" fn orderset_proved_log_recover(
     ensures result { hand_left result answer.new at.new value.new
         ≡ hand_call (log_recover_result area.now at.old value.old) answer.old }
 {
-    let handed = recover_log(area, at, value);
-    match handed {
-        LogOutcome::Refused(fault) => fault,
-        LogOutcome::Stored { number: top, count } => {
+    match recover_log(area, at, value) {
+        Ok(LogStored { number: top, count }) => {
             *answer = [top, count as u64];
             0
         }
+        Err(fault) => fault.number(),
     }
 }
 
@@ -83,12 +77,11 @@ pub extern "C" fn orderset_proved_log_recover(
 pub extern "C" fn orderset_proved_log_read(area: &[u8], number: u64, answer: &mut [u64; 2]) -> u32
     ensures result { part_left result answer.new ≡ part_call (part_result area.now number) answer.old }
 {
-    let part = find(area, number);
-    match part {
-        Part::Refused(refusal) => refusal,
-        Part::At { start, size } => {
+    match find(area, number) {
+        Ok(Part { start, size }) => {
             *answer = [start as u64, size as u64];
             0
         }
+        Err(refusal) => refusal.number(),
     }
 }

@@ -7,8 +7,8 @@ use Rattle.stores.specs.Store.{Store}
 use Rattle.stores.specs.Play.{word_numbers, values}
 use Rattle.message_log.specs.Area.{cells_in, marked_line}
 use Rattle.message_log.specs.Bit.{differing_place}
-use Rattle.message_log.specs.Append.{message_line, payloads_from, pairs_word, next_message, append_stores, append_fault}
-use Rattle.message_log.specs.AppendAfter.{append_after_stores, append_after_fault}
+use Rattle.message_log.specs.Append.{message_line, payloads_from, pairs_word, next_message, append_stores}
+use Rattle.message_log.specs.AppendAfter.{append_after_stores}
 use Rattle.message_log.specs.Recover.{invalidations}
 
 -- ---- the area
@@ -102,19 +102,9 @@ pub record AppendReady (area message : List ℕ) (ats vals number cell pairs cou
   pub size : count ≡ length (append_stores (cells_in area) (word area) message)
   pub room : MessageRoom area message cell number pairs ats vals
 
--- an append
-pub record AppendPlanned (area message : List ℕ) (ats vals fault number cell pairs count : ℕ) : Type 0 where
-  pub refusal : fault ≡ append_fault area message ats vals
-  pub ready : fault ≡ 0 → AppendReady area message ats vals number cell pairs count
-
 -- an append after this number that is not refused
 pub record AppendAfterReady (area : List ℕ) (last : ℕ) (message : List ℕ) (ats vals number cell pairs count : ℕ) : Type 0 where
   pub next : number ≡ suc last
   pub there : cell ≡ suc last % cells_in area
   pub size : count ≡ length (append_after_stores (cells_in area) (word area) last message)
   pub room : MessageRoom area message cell number pairs ats vals
-
--- an append after this number
-pub record AppendAfterPlanned (area : List ℕ) (last : ℕ) (message : List ℕ) (ats vals fault number cell pairs count : ℕ) : Type 0 where
-  pub refusal : fault ≡ append_after_fault area last message ats vals
-  pub ready : fault ≡ 0 → AppendAfterReady area last message ats vals number cell pairs count

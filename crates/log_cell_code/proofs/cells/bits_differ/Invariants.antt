@@ -1,5 +1,4 @@
 -- Invariants and measures of `log_cell_code::cells::bits_differ`.
-use Prim.Native.Nat.{◌-◌}
 use Rattle.words.specs.Word.{word}
 use Rattle.message_log.proofs.CellWords.{Matching}
 use Rattle.log_cell_code.proofs.cells.bits_differ.Given as goal

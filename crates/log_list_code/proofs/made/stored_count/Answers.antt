@@ -3,10 +3,10 @@ use Rattle.std.proofs.Common.{sym, ap}
 use Rattle.message_log.specs.inner.List.{stored_count}
 use Rattle.log_list_code.proofs.made.stored_count.Goals as goal
 
-pub returns-in-Stored : goal.returns-in-Stored
+pub returns-in-Ok : goal.returns-in-Ok
 unfolding stored_count
-returns-in-Stored c = sym (ap stored_count c.in-Stored.is)
+returns-in-Ok c = sym (ap stored_count c.in-Ok.is)
 
-pub returns-in-Refused : goal.returns-in-Refused
+pub returns-in-Err : goal.returns-in-Err
 unfolding stored_count
-returns-in-Refused c = sym (ap stored_count c.in-Refused.is)
+returns-in-Err c = sym (ap stored_count c.in-Err.is)

@@ -1,5 +1,5 @@
 -- Invariants and measures of `log_stores_code::filling::fill_line`.
-use Prim.Native.Nat.{◌-◌, ◌*◌}
+use Prim.Native.Nat.{◌*◌}
 use Rattle.message_log.proofs.Fillings.{RunFilling}
 use Rattle.message_log.specs.Append.{message_line}
 use Rattle.log_stores_code.proofs.filling.fill_line.Given as goal

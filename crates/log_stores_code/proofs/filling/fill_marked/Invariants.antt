@@ -1,5 +1,5 @@
 -- Invariants and measures of `log_stores_code::filling::fill_marked`.
-use Prim.Native.Nat.{◌-◌, ◌*◌}
+use Prim.Native.Nat.{◌*◌}
 use Rattle.stores.specs.Written.{marked}
 use Rattle.message_log.proofs.Fillings.{RunFilling}
 use Rattle.message_log.specs.Append.{marked_body}

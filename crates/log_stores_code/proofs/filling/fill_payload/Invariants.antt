@@ -1,5 +1,4 @@
 -- Invariants and measures of `log_stores_code::filling::fill_payload`.
-use Prim.Native.Nat.{◌-◌}
 use Rattle.words.specs.Word.{word}
 use Rattle.message_log.proofs.Plans.{Paying}
 use Rattle.log_stores_code.proofs.filling.fill_payload.Given as goal

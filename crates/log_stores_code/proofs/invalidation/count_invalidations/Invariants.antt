@@ -1,5 +1,4 @@
 -- Invariants and measures of `log_stores_code::invalidation::count_invalidations`.
-use Prim.Native.Nat.{◌-◌}
 use Rattle.words.specs.Word.{word}
 use Rattle.message_log.proofs.Recoveries.{Counting}
 use Rattle.log_stores_code.proofs.invalidation.count_invalidations.Given as goal

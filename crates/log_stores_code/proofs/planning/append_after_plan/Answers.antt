@@ -1,42 +1,44 @@
 -- Answers of `log_stores_code::planning::append_after_plan`.
-use mathlib.Core.Path.{refl}
-use native.Mathlib.Omega.{arith}
-use Rattle.message_log.proofs.Plans.{number_low, plan_no_area, plan_no_message, plan_no_number, cell_room, plan_done_after}
+use Rattle.std.proofs.Common.{refl, arith}
+use Rattle.refusals.proofs.Numbers.{not_zero, handed_on}
+use Rattle.message_log.proofs.Parts.{cells_by}
+use Rattle.message_log.proofs.Plans.{plan_no_area, plan_no_message, plan_no_number, cell_room, plan_fault, plan_ready}
 use Rattle.log_stores_code.proofs.planning.append_after_plan.Goals as goal
 
-pub returns-then-k-eq0 : goal.returns-then-k-eq0
-returns-then-k-eq0 c =
-    record { result = (plan_no_area _ _ _ _ _ _ c.cell_count-k.ensures.result _ _ _ _ _ c.if-k-eq0.true c.no_plan.ensures) }
+pub returns-in_err-k-clause-fault : goal.returns-in_err-k-clause-fault
+returns-in_err-k-clause-fault c =
+    rw (handed_on _ _ c.from_residual.ensures.1) (plan_no_area _ _ _ _ _ _ c.in_err-k.ensures.fault (not_zero _))
 
-pub returns-then-unfit-ne0 : goal.returns-then-unfit-ne0
-returns-then-unfit-ne0 c =
-    record {
-      result = (plan_no_message _ _ _ _ _ _ c.cell_count-k.ensures.result
-          c.if-k-eq0.false _ c.message_fault-unfit.ensures _ _ _ _ _ c.if-unfit-ne0.true c.no_plan-then-unfit-ne0.ensures);
-    }
+pub returns-in_err-check_message-clause-fault : goal.returns-in_err-check_message-clause-fault
+returns-in_err-check_message-clause-fault c =
+    rw (handed_on _ _ c.from_residual-in_err-check_message.ensures.1)
+    (plan_no_message _ _ _ _ _ c.in_ok-k.ensures.fault _ c.in_err-check_message.ensures (not_zero _))
 
-pub returns-then-over-ne0 : goal.returns-then-over-ne0
-returns-then-over-ne0 c =
-    record {
-      result = (plan_no_number _ _ _ _ _ _
-          c.cell_count-k.ensures.result c.if-k-eq0.false _ c.message_fault-unfit.ensures
-          c.if-unfit-ne0.false _ c.number_fault-over.ensures _ _ _ _ _ c.if-over-ne0.true c.no_plan-then-over-ne0.ensures);
-    }
+pub returns-in_err-number-clause-fault : goal.returns-in_err-number-clause-fault
+returns-in_err-number-clause-fault c =
+    rw (handed_on _ _ c.from_residual-in_err-number.ensures.1)
+    (plan_no_number _ _ _ _ _ c.in_ok-k.ensures.fault c.in_ok-check_message.ensures _ c.in_err-number.ensures.fault (not_zero _))
 
-pub overflow_add-number : goal.overflow_add-number
-overflow_add-number c =
-    omega (arith, number_low _ _ c.number_fault-over.ensures c.if-over-ne0.false)
+pub nonzero_rem-cell : goal.nonzero_rem-cell
+nonzero_rem-cell c = omega (arith, (cells_by c.args.area.now _ c.in_ok-k.ensures.cells c.in_ok-k.ensures.fault).some)
 
 pub payload_plan-payload-requires : goal.payload_plan-payload-requires
 payload_plan-payload-requires c =
-    cell_room c.args.area.now c.args.last c.args.message.now
-    c.args.ats c.args.vals _ c.cell_count-k.ensures.result c.if-k-eq0.false _
-    c.message_fault-unfit.ensures c.if-unfit-ne0.false _ c.number_fault-over.ensures c.if-over-ne0.false _ refl
+    cell_room c.args.area.now c.args.last c.args.message.now c.args.ats c.args.vals c.in_ok-k.ensures.fault
+    c.in_ok-check_message.ensures c.in_ok-number.ensures.fault _ c.in_ok-k.ensures.cells _ _ c.in_ok-number.ensures.next refl
 
-pub returns : goal.returns
-returns c =
-    record {
-      result = (plan_done_after _ _ _ _ _ _ c.cell_count-k.ensures.result
-          c.if-k-eq0.false _ c.message_fault-unfit.ensures c.if-unfit-ne0.false _
-          c.number_fault-over.ensures c.if-over-ne0.false _ refl _ _ c.payload_plan-payload.ensures _ c.short_fault.ensures.result);
-    }
+pub returns-in_err-check_room-clause-fault : goal.returns-in_err-check_room-clause-fault
+returns-in_err-check_room-clause-fault c =
+    rw (handed_on _ _ c.from_residual-in_err-check_room.ensures.1)
+    (plan_fault _ _ _ _ _ c.in_ok-k.ensures.fault c.in_ok-check_message.ensures c.in_ok-number.ensures.fault _ c.in_ok-k.ensures.cells _ _
+    c.in_ok-number.ensures.next refl _ _ c.payload_plan-payload.ensures _ c.in_err-check_room.ensures.result)
+
+pub returns-clause-fault : goal.returns-clause-fault
+returns-clause-fault c =
+    plan_fault _ _ _ _ _ c.in_ok-k.ensures.fault c.in_ok-check_message.ensures c.in_ok-number.ensures.fault _ c.in_ok-k.ensures.cells _ _
+    c.in_ok-number.ensures.next refl _ _ c.payload_plan-payload.ensures _ c.in_ok-check_room.ensures.result
+
+pub returns-clause-plan : goal.returns-clause-plan
+returns-clause-plan c =
+    plan_ready _ _ _ _ _ c.in_ok-k.ensures.fault c.in_ok-check_message.ensures c.in_ok-number.ensures.fault _ c.in_ok-k.ensures.cells _ _
+    c.in_ok-number.ensures.next refl _ _ c.payload_plan-payload.ensures c.in_ok-check_room.ensures.result

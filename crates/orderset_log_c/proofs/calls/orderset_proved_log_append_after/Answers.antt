@@ -1,27 +1,13 @@
 -- Answers of `orderset_log_c::calls::orderset_proved_log_append_after`.
-use borrow.Author.Rules.{rules}
 use Rattle.prelude.specs.Answer.{refusal_in, given_or}
 use Rattle.message_log.specs.LogOutcome.{log_answer}
 use Rattle.log_exports.specs.Call.{hand_call}
 use Rattle.orderset_log_c.proofs.calls.orderset_proved_log_append_after.Goals as goal
 
-pub append_after-handed-requires : goal.append_after-handed-requires
+pub returns-in-Err : goal.returns-in-Err
 unfolding refusal_in given_or log_answer hand_call
-append_after-handed-requires c =
-    search rules
+returns-in-Err c = record { result = rw (c.number.ensures.result, ← c.append_after.ensures.result, c.in-Err.is) }
 
-pub returns-in-Refused : goal.returns-in-Refused
+pub returns-in-Ok : goal.returns-in-Ok
 unfolding refusal_in given_or log_answer hand_call
-returns-in-Refused c =
-    record {
-      result = (rw
-          (← c.append_after-handed.ensures.result, c.in-Refused.is));
-    }
-
-pub returns-in-Stored : goal.returns-in-Stored
-unfolding refusal_in given_or log_answer hand_call
-returns-in-Stored c =
-    record {
-      result = (rw
-          (← c.append_after-handed.ensures.result, c.in-Stored.is));
-    }
+returns-in-Ok c = record { result = rw (← c.append_after.ensures.result, c.in-Ok.is) }

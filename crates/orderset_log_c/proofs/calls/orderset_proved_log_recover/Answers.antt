@@ -1,27 +1,13 @@
 -- Answers of `orderset_log_c::calls::orderset_proved_log_recover`.
-use borrow.Author.Rules.{rules}
 use Rattle.prelude.specs.Answer.{refusal_in, given_or}
 use Rattle.message_log.specs.LogOutcome.{log_answer}
 use Rattle.log_exports.specs.Call.{hand_call}
 use Rattle.orderset_log_c.proofs.calls.orderset_proved_log_recover.Goals as goal
 
-pub recover_log-handed-requires : goal.recover_log-handed-requires
+pub returns-in-Err : goal.returns-in-Err
 unfolding refusal_in given_or log_answer hand_call
-recover_log-handed-requires c =
-    search rules
+returns-in-Err c = record { result = rw (c.number.ensures.result, ← c.recover_log.ensures.result, c.in-Err.is) }
 
-pub returns-in-Refused : goal.returns-in-Refused
+pub returns-in-Ok : goal.returns-in-Ok
 unfolding refusal_in given_or log_answer hand_call
-returns-in-Refused c =
-    record {
-      result = (rw
-          (← c.recover_log-handed.ensures.result, c.in-Refused.is));
-    }
-
-pub returns-in-Stored : goal.returns-in-Stored
-unfolding refusal_in given_or log_answer hand_call
-returns-in-Stored c =
-    record {
-      result = (rw
-          (← c.recover_log-handed.ensures.result, c.in-Stored.is));
-    }
+returns-in-Ok c = record { result = rw (← c.recover_log.ensures.result, c.in-Ok.is) }

@@ -1,8 +1,8 @@
--- Answers of `log_stores_code::planning::message_fault`.
+-- Answers of `log_stores_code::planning::check_message`.
 use Rattle.prelude.proofs.Tests.{tests}
 use Rattle.prelude.specs.Refusal.{refuse_if}
 use Rattle.message_log.specs.Append.{message_fault}
-use Rattle.log_stores_code.proofs.planning.message_fault.Goals as goal
+use Rattle.log_stores_code.proofs.planning.check_message.Goals as goal
 
 pub returns-in-1-to-384 : goal.returns-in-1-to-384
 unfolding message_fault refuse_if
