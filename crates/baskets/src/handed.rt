@@ -1,117 +1,84 @@
 // The stores handed out last: putting them into the lists, plays, cuts and printing.
-use crate::set::Set;
-use orderset::play_list;
-use show::fronts::{bytes_of, numbers_of, values_of};
+ghost use Rattle.std.specs.Prelude.{◌≡◌, ◌<◌, ◌≤◌, length};
+
 use show::lines::decimal_digit;
 use std::io::Stdout;
 
-// The set with so many first entries of these at the front of its lists.
-pub fn put_front(set: Set, at: &[u32], value: &[u64], count: usize, opens: bool) -> Set {
-    let mut numbers = set.at;
-    let mut words = set.value;
-    let mut i: usize = 0;
-    while i < 16 {
-        if i < count {
-            if i < at.len() {
-                numbers[i] = at[i];
-            }
-            if i < value.len() {
-                words[i] = value[i];
-            }
+// How the stores are on lines: each invalidating store on one of its own, those of a change eight to a line.
+#[derive(Clone, Copy)]
+pub enum Lines {
+    OneStore,
+    EightStores,
+}
+
+impl Lines {
+    fn stores_each(self) -> usize
+        ensures { 0 < result }
+    {
+        match self {
+            Lines::OneStore => 1,
+            Lines::EightStores => 8,
         }
-        i += 1;
     }
-    let mut after = set;
-    after.at = numbers;
-    after.value = words;
-    after.count = count;
-    after.opens = opens;
-    after
 }
 
-// On which of the lines store i is.
-fn line_of(i: usize, opens: bool) -> usize {
-    if opens {
-        return i;
-    }
-    i / 8
+// Word numbers and values, in two lists as the calls fill them; `count` first entries were handed out last.
+#[derive(Clone, Copy)]
+pub struct Handed {
+    pub at: [u32; 130],
+    pub value: [u64; 130],
+    pub count: usize,
+    pub lines: Lines,
+    ghost within: { count ≤ 130 },
 }
 
-// How many stores of its line are before store i.
-fn before_on_line(i: usize, opens: bool) -> u64 {
-    if opens {
-        return 0;
+impl Handed {
+    // These stores come to the front of the lists.
+    pub fn put_front(&mut self, at: &[u32], value: &[u64], lines: Lines)
+        requires fits { length at.now ≤ 130 }
+        requires paired { length value.now ≡ length at.now }
+    {
+        let n = at.len();
+        let front = &mut self.at[..];
+        front[..n].copy_from_slice(at);
+        let front = &mut self.value[..];
+        front[..n].copy_from_slice(value);
+        self.count = n;
+        self.lines = lines;
     }
-    (i % 8) as u64
-}
 
-// Does store i stand, of so many?
-fn stands_on_line(i: usize, count: usize, opens: bool, counts: u64) -> bool {
-    let lines = line_of(count, opens);
-    let line = line_of(i, opens);
-    if lines <= line {
-        return false;
+    // Does store i stand, after a cut that leaves so many of each line?
+    fn stands_on_line(&self, i: usize, counts: u64) -> bool {
+        let each = self.lines.stores_each();
+        let lines = self.count / each;
+        let line = i / each;
+        line < lines && ((i % each) as u64) < decimal_digit(counts, lines - 1 - line)
     }
-    before_on_line(i, opens) < decimal_digit(counts, lines - 1 - line)
-}
 
-// The set with those alone handed out that stand.
-fn cut_set_stores(set: Set, counts: u64) -> Set {
-    let at = set.at;
-    let value = set.value;
-    let mut standing = set.at;
-    let mut words = set.value;
-    let mut n: usize = 0;
-    let mut i: usize = 0;
-    while i < 130 {
-        if stands_on_line(i, set.count, set.opens, counts) {
-            if n < 130 {
-                standing[n] = at[i];
-                words[n] = value[i];
+    // The stores that stand after a cut.
+    pub fn standing(&self, counts: u64) -> Handed {
+        let mut at = self.at;
+        let mut value = self.value;
+        let mut n = 0;
+        for i in 0..self.count {
+            if self.stands_on_line(i, counts) {
+                at[n] = self.at[i];
+                value[n] = self.value[i];
                 n += 1;
             }
         }
-        i += 1;
+        Handed {
+            at,
+            value,
+            count: n,
+            lines: self.lines,
+        }
     }
-    let mut after = set;
-    after.at = standing;
-    after.value = words;
-    after.count = n;
-    after
-}
 
-pub fn play_set(stdout: Stdout, set: Set) -> Set {
-    let mut image = set.image;
-    let at = set.at;
-    let value = set.value;
-    let lent = set.lent;
-    let i = bytes_of(lent.image % 2177, &image);
-    let n = numbers_of(set.count, &at);
-    let v = values_of(set.count, &value);
-    show::number(
-        stdout,
-        play_list(&mut image[..i], &at[..n], &value[..v]) as u64,
-    );
-    let mut after = set;
-    after.image = image;
-    after
-}
-
-// A cut that leaves so many stores of each line.
-pub fn cut(stdout: Stdout, set: Set, counts: u64) -> Set {
-    let left = play_set(stdout, cut_set_stores(set, counts));
-    let image = left.image;
-    let mut after = set;
-    after.image = image;
-    after
-}
-
-pub fn show_first_stores(stdout: Stdout, set: Set, count: usize) {
-    let at = set.at;
-    let value = set.value;
-    let n = numbers_of(count, &at);
-    let v = values_of(count, &value);
-    show::numbers(stdout, &at[..n]);
-    show::text(stdout, b"\n ");
-    show::values(stdout, &value[..v]);
+    pub fn show_front(&self, stdout: Stdout, count: usize) {
+        let n = count.min(130);
+        show::numbers(stdout, &self.at[..n]);
+        show::text(stdout, b"\n ");
+        show::values(stdout, &self.value[..n]);
+    }
 }

@@ -1,45 +1,56 @@
 // The items of the basket to come, and values.
-use crate::set::{Named, Set};
-use orderset::{Action, BasketItem};
+use orderset::{Action, BasketItem, Mode};
 
-// The values with that of one item: its byte i is byte + i.
-pub fn with_value(values: [u8; 640], item: usize, byte: u64) -> [u8; 640] {
-    let mut after = values;
-    let mut i: usize = 0;
-    while i < 640 {
-        if i / 80 == item {
-            after[i] = ((byte % 256 + (i % 80) as u64) % 256) as u8;
-        }
-        i += 1;
-    }
-    after
+// The items of a basket, with their values from byte 80 * i on; of more than eight only the count is kept.
+#[derive(Clone, Copy)]
+pub struct Named {
+    pub count: usize,
+    pub items: [BasketItem; 8],
+    pub values: [u8; 640],
 }
 
-fn with_item_and_value(named: Named, action: Action, n: [u64; 5]) -> Named {
-    let mut items = named.items;
-    let values = named.values;
-    let i = named.count;
-    if 8 < i {
-        return named;
-    }
-    if i < 8 {
-        items[i] = BasketItem {
-            action,
-            low: n[1],
-            high: n[4],
-            length: n[2] as usize,
+// No item.
+impl Default for Named {
+    fn default() -> Named {
+        let item = BasketItem {
+            action: Action::Write(Mode::Insert),
+            low: 0,
+            high: 0,
+            length: 0,
         };
-    }
-    Named {
-        count: i + 1,
-        items,
-        values: with_value(values, i, n[3]),
+        Named {
+            count: 0,
+            items: [item; 8],
+            values: [0; 640],
+        }
     }
 }
 
-pub fn add_item(set: Set, action: Action, n: [u64; 5]) -> Set {
-    let mut after = set;
-    let basket = set.basket;
-    after.basket = with_item_and_value(basket, action, n);
-    after
+// Byte i of the value becomes byte + i.
+pub fn fill_rising(value: &mut [u8], byte: u64) {
+    let mut next = (byte % 256) as u8;
+    for b in value.iter_mut() {
+        *b = next;
+        next = next.wrapping_add(1);
+    }
+}
+
+impl Named {
+    pub fn add_item(&mut self, action: Action, [_, low, length, byte, high]: [u64; 5]) {
+        if 8 < self.count {
+            return;
+        }
+        if self.count < 8 {
+            self.items[self.count] = BasketItem {
+                action,
+                low,
+                high,
+                length: length as usize,
+            };
+            let start = 80 * self.count;
+            let values = &mut self.values[..];
+            fill_rising(&mut values[start..start + 80], byte);
+        }
+        self.count += 1;
+    }
 }

@@ -14,97 +14,63 @@ mod setup;
 mod single;
 
 use basket::run_basket;
-use handed::{cut, play_set, show_first_stores};
 use image::{format_set, recover_set, show_image_word};
-use item::add_item;
-use names::{BASKET, CUT, FORMAT, GET, INSERT, PLAY, RECOVER, REMOVE, REPLACE, STORES, WORD};
-use orderset::{Action, Mode};
-use set::{Set, start_baskets};
+use names::{Name, basket_name};
+use set::Set;
 use setup::set_up_baskets;
 use show::input::read_full;
-use show::lines::{is_asked, parse_numbers, until};
-use single::{is_single, run_single, show_get};
+use show::lines::{is_asked, parse_numbers};
+use single::{run_single, show_get};
 use std::io::Stdout;
-use words_code::padded_word;
 
 // A line that ends in a colon.
-fn run_basket_call(stdout: Stdout, set: Set, name: u64, n: [u64; 5]) -> Set {
-    if name == FORMAT {
-        return format_set(stdout, set, n);
+fn run_basket_call(set: &mut Set, stdout: Stdout, name: Name, numbers: [u64; 5]) {
+    let [_, first, second, _, _] = numbers;
+    match name {
+        Name::Format => format_set(set, stdout, first, second),
+        Name::Recover => recover_set(set, stdout),
+        Name::Basket => run_basket(set, stdout),
+        Name::Play => {
+            let handed = set.handed;
+            set.play_stores_of(stdout, &handed);
+        }
+        Name::Cut => {
+            let left = set.handed.standing(first);
+            set.play_stores_of(stdout, &left);
+        }
+        Name::Get => show_get(set, stdout, first),
+        Name::Stores => set.handed.show_front(stdout, first as usize),
+        Name::Word => show_image_word(set, stdout, first),
+        Name::Change(action) => run_single(set, stdout, action, numbers),
+        _ => {}
     }
-    if name == RECOVER {
-        return recover_set(stdout, set);
-    }
-    if name == BASKET {
-        return run_basket(stdout, set);
-    }
-    if name == PLAY {
-        return play_set(stdout, set);
-    }
-    if name == CUT {
-        return cut(stdout, set, n[1]);
-    }
-    if name == GET {
-        show_get(stdout, set, n[1]);
-        return set;
-    }
-    if name == STORES {
-        show_first_stores(stdout, set, n[1] as usize);
-        return set;
-    }
-    if name == WORD {
-        show_image_word(stdout, set, n[1] as usize);
-        return set;
-    }
-    if is_single(name) {
-        return run_single(stdout, set, name, n);
-    }
-    set
 }
 
-// Another line.
-fn prepare_basket(set: Set, name: u64, n: [u64; 5]) -> Set {
-    if name == INSERT {
-        return add_item(set, Action::Write(Mode::Insert), n);
-    }
-    if name == REPLACE {
-        return add_item(set, Action::Write(Mode::Replace), n);
-    }
-    if name == REMOVE {
-        return add_item(set, Action::Remove, n);
-    }
-    set_up_baskets(set, name, n)
-}
-
-fn dispatch_basket_line(stdout: Stdout, set: Set, line: &[u8]) -> Set {
-    let end = until(line, 0, 97);
-    let name = padded_word(&line[..end], 0);
-    let n = parse_numbers(line);
-    if is_asked(line) {
-        return run_basket_call(stdout, set, name, n);
-    }
-    prepare_basket(set, name, n)
-}
-
-fn run_basket_line(stdout: Stdout, set: Set, line: &[u8]) -> Set {
+fn run_basket_line(set: &mut Set, stdout: Stdout, line: &[u8]) {
     show::text(stdout, line);
-    let after = dispatch_basket_line(stdout, set, line);
+    if let Some(name) = basket_name(line) {
+        let numbers = parse_numbers(line);
+        if is_asked(line) {
+            run_basket_call(set, stdout, name, numbers);
+        } else {
+            set_up_baskets(set, name, numbers);
+        }
+    }
     show::text(stdout, b"\n");
-    after
 }
 
 fn run_baskets(stdout: Stdout, input: &[u8]) {
-    let mut set = start_baskets();
-    let mut at = 0;
-    while at < input.len() {
-        let end = until(input, at, 11);
-        set = run_basket_line(stdout, set, &input[at..end]);
-        at = end + 1;
+    let mut set = Set::default();
+    for line in input.split_inclusive(|byte| *byte <= b'\n') {
+        match line {
+            [line @ .., end] if *end <= b'\n' => run_basket_line(&mut set, stdout, line),
+            _ => run_basket_line(&mut set, stdout, line),
+        }
     }
 }
 
 fn main(rt: HostRuntime) {
-    let mut input = [0u8; 16384];
+    let mut input = [0; 16384];
     let n = read_full(rt.stdin(), &mut input);
     run_baskets(rt.stdout(), &input[..n]);
 }

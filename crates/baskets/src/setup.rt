@@ -1,76 +1,45 @@
 // The lines that set a part of the set by hand.
-use crate::names::{CLEAR, HEAD, LEND, LISTS, NEXT, STATE, WORD};
-use crate::set::{Set, no_items};
+use crate::item::Named;
+use crate::names::Name;
+use crate::set::Set;
 use orderset::State;
 use show::lines::low_half;
 use words_code::write_word;
 
-fn put_word(image: &mut [u8; 2176], place: usize, value: u64) {
-    if place < 272 {
-        write_word(image, place, value);
-    }
-}
-
-fn with_word(set: Set, n: [u64; 5]) -> Set {
-    let mut image = set.image;
-    let value = n[2] % 4294967296 + 4294967296 * (n[3] % 4294967296);
-    put_word(&mut image, n[1] as usize, value);
-    let mut after = set;
-    after.image = image;
-    after
-}
-
-fn with_link(set: Set, name: u64, n: [u64; 5]) -> Set {
-    let mut after = set;
-    let place = n[1] as usize;
-    if name == HEAD {
-        if place < 3 {
-            after.heads[place] = low_half(n[2]);
-        }
-    }
-    if name == NEXT {
-        if place < 17 {
-            after.next[place] = low_half(n[2]);
-        }
-    }
-    after
-}
-
-fn with_lent(set: Set, name: u64, n: [u64; 5]) -> Set {
-    let mut lent = set.lent;
-    if name == LEND {
-        lent.image = n[1] as usize;
-        lent.heads = n[2] as usize;
-        lent.next = n[3] as usize;
-    }
-    if name == LISTS {
-        lent.at = n[1] as usize;
-        lent.value = n[2] as usize;
-    }
-    let mut after = set;
-    after.lent = lent;
-    after
+// The low half of a word, and its high half.
+fn joined_halves(low: u64, high: u64) -> u64 {
+    low % 4294967296 + 4294967296 * (high % 4294967296)
 }
 
 // A line of one of these names; another changes nothing.
-pub fn set_up_baskets(set: Set, name: u64, n: [u64; 5]) -> Set {
-    if name == WORD {
-        return with_word(set, n);
+pub fn set_up_baskets(set: &mut Set, name: Name, numbers: [u64; 5]) {
+    let [_, first, second, third, fourth] = numbers;
+    match name {
+        Name::Lend => {
+            set.lent.image = (first % 2177) as usize;
+            set.lent.heads = (second as usize).min(3);
+            set.lent.next = (third as usize).min(17);
+        }
+        Name::Lists => {
+            set.lent.at = (first as usize).min(130);
+            set.lent.value = (second as usize).min(130);
+        }
+        Name::Word if first < 272 => {
+            write_word(&mut set.image, first as usize, joined_halves(second, third));
+        }
+        Name::Head if first < 3 => set.heads[first as usize] = low_half(second),
+        Name::Next if first < 17 => set.next[first as usize] = low_half(second),
+        Name::State => {
+            set.state = State {
+                first: low_half(first),
+                last: low_half(second),
+                live: low_half(third),
+                newest: 0,
+                version: fourth,
+            };
+        }
+        Name::Clear => set.basket = Named::default(),
+        Name::Change(action) => set.basket.add_item(action, numbers),
+        _ => {}
     }
-    let mut after = with_lent(with_link(set, name, n), name, n);
-    if name == STATE {
-        let state = State {
-            first: low_half(n[1]),
-            last: low_half(n[2]),
-            live: low_half(n[3]),
-            newest: 0,
-            version: n[4],
-        };
-        after.state = state;
-    }
-    if name == CLEAR {
-        let none = no_items();
-        after.basket = none;
-    }
-    after
 }

@@ -1,144 +1,199 @@
 // What the lines work on: two sides, each an image with its index or a log's area. The first is changed by the forms
 // with number slices, the second by those with a list of stores.
-use orderset::{Action, BasketItem, Mode, State, Store};
+use crate::form::{Form, Named, Numbers};
+use crate::image::Image;
+use lists_code::lent::StoreList;
+use message_log::LogOutcome;
+use orderset::{BasketOutcome, Store};
 use std::io::Stdout;
 
-// The bytes, with an index and its state where they are an image.
+// An image or an area, and the lists of stores in the form of the calls on this side.
 #[derive(Clone, Copy)]
-pub struct Side {
-    pub bytes: [u8; 2176],
-    pub heads: [u32; 2],
-    pub next: [u32; 17],
-    pub state: State,
+pub struct Side<F> {
+    pub image: Image,
+    pub handed: F,
 }
 
-// Word numbers and values of stores.
-#[derive(Clone, Copy)]
-pub struct Numbers {
-    pub at: [u32; 48],
-    pub value: [u64; 48],
+impl<F: Form> Side<F> {
+    // A basket; its answer is printed. How many stores were handed out.
+    fn show_basket(&mut self, stdout: Stdout, layout: u64, named: &Named) -> usize {
+        let answer = self.handed.run_basket_on(&mut self.image, layout, named);
+        self.image.state = answer.state;
+        match answer.outcome {
+            BasketOutcome::Stored { version } => {
+                let keys = named.count % 4;
+                show::text(stdout, b" ok");
+                show::number(stdout, version);
+                show::numbers(stdout, &answer.slots[..keys]);
+                16 * keys
+            }
+            BasketOutcome::Refused(number) => {
+                show::refused(stdout, number);
+                0
+            }
+        }
+    }
+
+    fn show_play(&mut self, stdout: Stdout, count: usize) {
+        let size = self.image.size;
+        let bytes = &mut self.image.bytes[..];
+        let answer = self.handed.play_first(&mut bytes[..size], count);
+        show::number(stdout, u64::from(answer));
+    }
 }
 
-// The items of a basket; every byte of their values is `byte`. Of more than eight only the count is kept.
-#[derive(Clone, Copy)]
-pub struct Named {
-    pub count: usize,
-    pub items: [BasketItem; 8],
-    pub byte: u8,
+// The answer of a call of the log is printed; how many stores were handed out.
+fn show_log_form(stdout: Stdout, answer: LogOutcome) -> usize {
+    match answer {
+        LogOutcome::Stored { number, count } => {
+            show::text(stdout, b" ok");
+            show::number(stdout, number);
+            show::number(stdout, count as u64);
+            count
+        }
+        LogOutcome::Refused(number) => {
+            show::refused(stdout, number);
+            0
+        }
+    }
 }
 
-// Of each side so many first bytes are lent. `count` first entries of the two number lists, and of the list of stores,
-// were handed out last.
-#[derive(Clone, Copy)]
+// `count` first entries of the two number lists, and of the list of stores, were handed out last.
+#[derive(Drop)]
 pub struct Both {
-    pub size: usize,
     pub layout: u64,
-    pub first: Side,
-    pub second: Side,
-    pub numbers: Numbers,
-    pub stores: [Store; 48],
+    pub first: Side<Numbers>,
+    pub second: Side<StoreList>,
     pub count: usize,
     pub basket: Named,
 }
 
-pub fn empty_basket() -> Named {
-    let item = BasketItem {
-        action: Action::Write(Mode::Insert),
-        low: 0,
-        high: 0,
-        length: 0,
-    };
-    Named {
-        count: 0,
-        items: [item; 8],
-        byte: 0,
-    }
-}
-
-// A side of zeros.
-pub fn empty() -> Side {
-    let state = State {
-        first: 0,
-        last: 0,
-        live: 0,
-        newest: 0,
-        version: 0,
-    };
-    Side {
-        bytes: [0; 2176],
-        heads: [0; 2],
-        next: [0; 17],
-        state,
-    }
-}
-
 // Nothing is lent, no item is named, and every entry of the lists is 9.
-pub fn start_lists() -> Both {
-    let store = Store { word: 9, value: 9 };
-    Both {
-        size: 0,
-        layout: 1,
-        first: empty(),
-        second: empty(),
-        numbers: Numbers {
-            at: [9; 48],
-            value: [9; 48],
-        },
-        stores: [store; 48],
-        count: 0,
-        basket: empty_basket(),
-    }
-}
-
-// Is the store another than this one?
-fn is_other(word: u32, value: u64, store: Store) -> bool {
-    if word != store.word {
-        return true;
-    }
-    value != store.value
-}
-
-// The first entry in which the two number lists and the list of stores differ, or their size.
-fn first_other(at: [u32; 48], value: [u64; 48], stores: [Store; 48]) -> usize {
-    let mut i: usize = 0;
-    while i < 48 {
-        if is_other(at[i], value[i], stores[i]) {
-            return i;
+impl Default for Both {
+    fn default() -> Both {
+        let image = Image::zeros(0);
+        Both {
+            layout: 1,
+            first: Side {
+                image,
+                handed: Numbers {
+                    at: [9; 48],
+                    value: [9; 48],
+                },
+            },
+            second: Side {
+                image,
+                handed: StoreList {
+                    stores: [Store { word: 9, value: 9 }; 48],
+                },
+            },
+            count: 0,
+            basket: Named::default(),
         }
-        i += 1;
-    }
-    i
-}
-
-// In how many first entries the lists are equal.
-pub fn show_equal(stdout: Stdout, numbers: Numbers, stores: [Store; 48]) {
-    let at = numbers.at;
-    let value = numbers.value;
-    show::text(stdout, b" equal");
-    show::number(stdout, first_other(at, value, stores) as u64);
-}
-
-// One entry of the lists: word number and value of each form.
-pub fn show_entry(stdout: Stdout, both: Both, i: usize) {
-    let numbers = both.numbers;
-    let stores = both.stores;
-    if i < 48 {
-        let store = stores[i];
-        show::number(stdout, numbers.at[i] as u64);
-        show::number(stdout, numbers.value[i]);
-        show::number(stdout, store.word as u64);
-        show::number(stdout, store.value);
     }
 }
 
-// The first byte in which they differ, or their size.
-pub fn first_other_byte(a: [u8; 2176], b: [u8; 2176]) -> usize {
-    let mut i: usize = 0;
-    while i < 2176 {
-        if a[i] != b[i] {
-            return i;
+impl Both {
+    fn put_image(&mut self, image: Image) {
+        self.first.image = image;
+        self.second.image = image;
+        self.count = 0;
+    }
+
+    pub fn format_both(&mut self, stdout: Stdout, slots: u64, layout: u64) {
+        let mut image = Image::zeros(0);
+        image.format_fresh(stdout, slots, layout);
+        self.put_image(image);
+        self.layout = layout;
+        self.basket = Named::default();
+    }
+
+    pub fn make_area(&mut self, cells: u64) {
+        self.put_image(Image::zeros(cells));
+    }
+
+    // The first entry in which the lists differ, or their size.
+    fn first_other(&self) -> usize {
+        let numbers = &self.first.handed;
+        let pairs = numbers.at.iter().zip(numbers.value.iter());
+        pairs
+            .zip(self.second.handed.stores.iter())
+            .position(|((word, value), store)| *word != store.word || *value != store.value)
+            .unwrap_or(48)
+    }
+
+    // In how many first entries the lists are equal.
+    fn show_equal(&self, stdout: Stdout) {
+        show::text(stdout, b" equal");
+        show::number(stdout, self.first_other() as u64);
+    }
+
+    // One entry of the lists: word number and value of each form.
+    pub fn show_entry(&self, stdout: Stdout, place: u64) {
+        if place < 48 {
+            let store = self.second.handed.stores[place as usize];
+            show::number(stdout, u64::from(self.first.handed.at[place as usize]));
+            show::number(stdout, self.first.handed.value[place as usize]);
+            show::number(stdout, u64::from(store.word));
+            show::number(stdout, store.value);
         }
-        i += 1;
     }
-    i
+
+    // Both answers, in how many first entries the lists are equal, and the two states and indexes.
+    pub fn run_both_baskets(&mut self, stdout: Stdout) {
+        self.count = self.first.show_basket(stdout, self.layout, &self.basket);
+        self.second.show_basket(stdout, self.layout, &self.basket);
+        self.show_equal(stdout);
+        self.first.image.show_line(stdout);
+        self.second.image.show_line(stdout);
+        self.basket = Named::default();
+    }
+
+    // A message of so many bytes: both answers, and in how many first entries the lists are equal.
+    pub fn append_both(&mut self, stdout: Stdout, length: u64, byte: u64) {
+        let message = [(byte % 256) as u8; 400];
+        let message = &message[..((length % 401) as usize)];
+        let first = self
+            .first
+            .handed
+            .append_to(self.first.image.lent_bytes(), message);
+        let second = self
+            .second
+            .handed
+            .append_to(self.second.image.lent_bytes(), message);
+        self.count = show_log_form(stdout, first);
+        show_log_form(stdout, second);
+        self.show_equal(stdout);
+    }
+
+    pub fn recover_both(&mut self, stdout: Stdout) {
+        let first = self
+            .first
+            .handed
+            .recover_from(self.first.image.lent_bytes());
+        let second = self
+            .second
+            .handed
+            .recover_from(self.second.image.lent_bytes());
+        self.count = show_log_form(stdout, first);
+        show_log_form(stdout, second);
+        self.show_equal(stdout);
+    }
+
+    // Of the stores handed out last only so many first ones are left.
+    pub fn keep_stores(&mut self, count: u64) {
+        self.count = self.count.min(count as usize);
+    }
+
+    // Both answers, and in how many first bytes the two are equal.
+    pub fn play_both(&mut self, stdout: Stdout) {
+        if self.count == 0 {
+            return;
+        }
+        self.first.show_play(stdout, self.count);
+        self.second.show_play(stdout, self.count);
+        let equal = self.first.image.equal_front(&self.second.image);
+        show::text(stdout, b" equal");
+        show::number(stdout, equal as u64);
+    }
 }

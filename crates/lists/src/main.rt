@@ -5,85 +5,52 @@
 // and indexes.
 #![tactic(auto)]
 
-mod area;
 mod both;
+mod form;
+mod image;
 mod names;
-mod set;
 
-use area::{append_both, area, recover_both};
-use both::{Both, show_entry, start_lists};
-use names::{APPEND, AREA, BASKET, ENTRY, FORMAT, INSERT, KEEP, PLAY, RECOVER, REMOVE, REPLACE};
-use orderset::{Action, Mode};
-use set::{add_item_to_both, format_both, kept, play_both, run_both_baskets};
+use both::Both;
+use names::{Name, list_name};
 use show::input::read_full;
-use show::lines::{parse_numbers, until};
+use show::lines::parse_numbers;
 use std::io::Stdout;
-use words_code::padded_word;
 
-// A line that names an item of a basket; another changes nothing.
-fn prepare_both(both: Both, name: u64, n: [u64; 5]) -> Both {
-    if name == INSERT {
-        return add_item_to_both(both, Action::Write(Mode::Insert), n);
+fn run_list_call(both: &mut Both, stdout: Stdout, name: Name, numbers: [u64; 5]) {
+    let [_, first, second, _, _] = numbers;
+    match name {
+        Name::Format => both.format_both(stdout, first, second),
+        Name::Area => both.make_area(first),
+        Name::Change(action) => both.basket.name_item(action, numbers),
+        Name::Basket => both.run_both_baskets(stdout),
+        Name::Append => both.append_both(stdout, first, second),
+        Name::Recover => both.recover_both(stdout),
+        Name::Keep => both.keep_stores(first),
+        Name::Play => both.play_both(stdout),
+        Name::Entry => both.show_entry(stdout, first),
     }
-    if name == REPLACE {
-        return add_item_to_both(both, Action::Write(Mode::Replace), n);
-    }
-    if name == REMOVE {
-        return add_item_to_both(both, Action::Remove, n);
-    }
-    both
 }
 
-fn run_list_call(stdout: Stdout, both: Both, name: u64, n: [u64; 5]) -> Both {
-    if name == FORMAT {
-        return format_both(stdout, both, n);
-    }
-    if name == AREA {
-        return area(both, n[1]);
-    }
-    if name == BASKET {
-        return run_both_baskets(stdout, both);
-    }
-    if name == APPEND {
-        return append_both(stdout, both, n);
-    }
-    if name == RECOVER {
-        return recover_both(stdout, both);
-    }
-    if name == PLAY {
-        return play_both(stdout, both);
-    }
-    if name == KEEP {
-        return kept(both, n[1] as usize);
-    }
-    if name == ENTRY {
-        show_entry(stdout, both, n[1] as usize);
-        return both;
-    }
-    prepare_both(both, name, n)
-}
-
-fn run_list_line(stdout: Stdout, both: Both, line: &[u8]) -> Both {
+fn run_list_line(both: &mut Both, stdout: Stdout, line: &[u8]) {
     show::text(stdout, line);
-    let end = until(line, 0, 97);
-    let name = padded_word(&line[..end], 0);
-    let after = run_list_call(stdout, both, name, parse_numbers(line));
+    if let Some(name) = list_name(line) {
+        run_list_call(both, stdout, name, parse_numbers(line));
+    }
     show::text(stdout, b"\n");
-    after
 }
 
 fn run_lists(stdout: Stdout, input: &[u8]) {
-    let mut both = start_lists();
-    let mut at = 0;
-    while at < input.len() {
-        let end = until(input, at, 11);
-        both = run_list_line(stdout, both, &input[at..end]);
-        at = end + 1;
+    let mut both = Both::default();
+    for line in input.split_inclusive(|byte| *byte <= b'\n') {
+        match line {
+            [line @ .., end] if *end <= b'\n' => run_list_line(&mut both, stdout, line),
+            _ => run_list_line(&mut both, stdout, line),
+        }
     }
 }
 
 fn main(rt: HostRuntime) {
-    let mut input = [0u8; 4096];
+    let mut input = [0; 4096];
     let n = read_full(rt.stdin(), &mut input);
     run_lists(rt.stdout(), &input[..n]);
 }

@@ -1,35 +1,52 @@
-// The lines by their names, each with its numbers; a name is its first eight letters as a word, low byte first.
+// The names of the lines, each with its numbers.
+use orderset::{Action, Mode};
+use show::lines::until;
 
-// format SLOTS LAYOUT: both images are formatted and recovered, with two heads; no item is named
-pub const FORMAT: u64 = 0x74616d726f66;
+#[derive(Clone, Copy)]
+pub enum Name {
+    // format SLOTS LAYOUT: both images are formatted and recovered, with two heads; no item is named
+    Format,
 
-// area CELLS: both become a log's area of so many cells, all zeros
-pub const AREA: u64 = 0x61657261;
+    // area CELLS: both become a log's area of so many cells, all zeros
+    Area,
 
-// insert KEY LENGTH BYTE HIGH: names an item of the basket to come; every byte of the values becomes BYTE, and HIGH is
-// the high word of its key
-pub const INSERT: u64 = 0x747265736e69;
+    // insert, replace or remove KEY LENGTH BYTE HIGH: names an item of a basket; every byte of the values becomes BYTE,
+    // and HIGH is the high word of its key
+    Change(Action),
 
-// replace KEY LENGTH BYTE HIGH: the same
-pub const REPLACE: u64 = 0x6563616c706572;
+    // basket: the basket of the items named, by number slices and by a list
+    Basket,
 
-// remove KEY LENGTH BYTE HIGH: the same
-pub const REMOVE: u64 = 0x65766f6d6572;
+    // append LENGTH BYTE: a message of so many bytes BYTE, by number slices and by a list
+    Append,
 
-// basket: the basket of the items named, by number slices and by a list
-pub const BASKET: u64 = 0x74656b736162;
+    // recover: the log's recovery, by number slices and by a list
+    Recover,
 
-// append LENGTH BYTE: a message of so many bytes BYTE, by number slices and by a list
-pub const APPEND: u64 = 0x646e65707061;
+    // keep COUNT: of the stores handed out last only so many first ones are left, as after a cut
+    Keep,
 
-// recover: the log's recovery, by number slices and by a list
-pub const RECOVER: u64 = 0x7265766f636572;
+    // play: the stores handed out last, if any, by number slices and by a list
+    Play,
 
-// keep COUNT: of the stores handed out last only so many first ones are left, as after a cut
-pub const KEEP: u64 = 0x7065656b;
+    // entry PLACE: an entry of the two number lists, and of the list of stores
+    Entry,
+}
 
-// play: the stores handed out last, if any, by number slices and by a list
-pub const PLAY: u64 = 0x79616c70;
-
-// entry PLACE: an entry of the two number lists, and of the list of stores
-pub const ENTRY: u64 = 0x7972746e65;
+// The name that a line begins with, if it is one of these.
+pub fn list_name(line: &[u8]) -> Option<Name> {
+    match &line[..until(line, 0, b'a')] {
+        b"format" => Some(Name::Format),
+        b"area" => Some(Name::Area),
+        b"insert" => Some(Name::Change(Action::Write(Mode::Insert))),
+        b"replace" => Some(Name::Change(Action::Write(Mode::Replace))),
+        b"remove" => Some(Name::Change(Action::Remove)),
+        b"basket" => Some(Name::Basket),
+        b"append" => Some(Name::Append),
+        b"recover" => Some(Name::Recover),
+        b"keep" => Some(Name::Keep),
+        b"play" => Some(Name::Play),
+        b"entry" => Some(Name::Entry),
+        _ => None,
+    }
+}

@@ -1,4 +1,4 @@
-// The calls that take a list of stores, each with a local list that is lent to it and comes back by value.
+// The calls that take a list of stores, each of which is lent the same list.
 
 #![tactic(auto)]
 

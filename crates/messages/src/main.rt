@@ -8,81 +8,65 @@ mod cut;
 mod lent;
 mod names;
 
-use actions::{
-    append_message, append_message_after, play_log, recover_area, show_area_word, show_log_stores,
-    show_part,
-};
-use cut::cut_log_stores;
-use lent::{Log, set_up_log, start_messages};
-use names::{AFTER, APPEND, CELLS, LINES, PLAY, READ, RECOVER, STORES, WORD};
+use lent::Log;
+use names::{Name, message_name};
 use show::input::read_full;
-use show::lines::{is_asked, parse_numbers, until};
+use show::lines::{is_asked, parse_numbers};
 use std::io::Stdout;
-use words_code::padded_word;
 
-fn run_message_call(stdout: Stdout, log: Log, name: u64, n: [u64; 5]) -> Log {
-    if name == APPEND {
-        return append_message(stdout, log, n);
+// A line that ends in a colon.
+fn run_message_call(log: &mut Log, stdout: Stdout, name: Name, numbers: [u64; 5]) {
+    let [_, first, second, third, fourth] = numbers;
+    match name {
+        Name::Append => log.append_message(stdout, first, second, third),
+        Name::After => log.append_message_after(stdout, first, second, third, fourth),
+        Name::Recover => log.recover_area(stdout),
+        Name::Play => log.play_log(stdout),
+        Name::Cut(group) => {
+            log.cut_stores(group, first);
+            log.play_log(stdout);
+        }
+        Name::Read => log.show_part(stdout, first),
+        Name::Stores => log.show_log_stores(stdout, first),
+        Name::Word => log.show_area_word(stdout, first),
+        Name::Lend | Name::Fill => {}
     }
-    if name == AFTER {
-        return append_message_after(stdout, log, n);
-    }
-    if name == RECOVER {
-        return recover_area(stdout, log);
-    }
-    if name == PLAY {
-        return play_log(stdout, log);
-    }
-    if name == LINES {
-        return play_log(stdout, cut_log_stores(log, n[1], 0));
-    }
-    if name == CELLS {
-        return play_log(stdout, cut_log_stores(log, n[1], 1));
-    }
-    if name == READ {
-        show_part(stdout, log, n[1]);
-        return log;
-    }
-    if name == STORES {
-        show_log_stores(stdout, log, n[1] as usize);
-        return log;
-    }
-    if name == WORD {
-        show_area_word(stdout, log, n[1] as usize);
-        return log;
-    }
-    log
 }
 
-fn dispatch_message_line(stdout: Stdout, log: Log, line: &[u8]) -> Log {
-    let end = until(line, 0, 97);
-    let name = padded_word(&line[..end], 0);
-    let n = parse_numbers(line);
-    if is_asked(line) {
-        return run_message_call(stdout, log, name, n);
+// A line that sets a part of the log; another changes nothing.
+fn set_up_log(log: &mut Log, name: Name, [_, first, second, third, _]: [u64; 5]) {
+    match name {
+        Name::Fill => log.fill_area(first, second, (third % 256) as u8),
+        Name::Lend => log.lend_fronts(first, second, third),
+        _ => {}
     }
-    set_up_log(log, name, n)
 }
 
-fn run_message_line(stdout: Stdout, log: Log, line: &[u8]) -> Log {
+fn run_message_line(log: &mut Log, stdout: Stdout, line: &[u8]) {
     show::text(stdout, line);
-    let after = dispatch_message_line(stdout, log, line);
+    if let Some(name) = message_name(line) {
+        let numbers = parse_numbers(line);
+        if is_asked(line) {
+            run_message_call(log, stdout, name, numbers);
+        } else {
+            set_up_log(log, name, numbers);
+        }
+    }
     show::text(stdout, b"\n");
-    after
 }
 
 fn run_messages(stdout: Stdout, input: &[u8]) {
-    let mut log = start_messages();
-    let mut at = 0;
-    while at < input.len() {
-        let end = until(input, at, 11);
-        log = run_message_line(stdout, log, &input[at..end]);
-        at = end + 1;
+    let mut log = Log::default();
+    for line in input.split_inclusive(|byte| *byte <= b'\n') {
+        match line {
+            [line @ .., end] if *end <= b'\n' => run_message_line(&mut log, stdout, line),
+            _ => run_message_line(&mut log, stdout, line),
+        }
     }
 }
 
 fn main(rt: HostRuntime) {
-    let mut input = [0u8; 16384];
+    let mut input = [0; 16384];
     let n = read_full(rt.stdin(), &mut input);
     run_messages(rt.stdout(), &input[..n]);
 }

@@ -1,34 +1,56 @@
-// The lines by their names, each with its numbers; a name is its first eight letters as a word, low byte first.
+// The names of the lines, each with its numbers.
+use crate::cut::Group;
+use show::lines::until;
 
-// lend BYTES NUMBERS VALUES: how much of the area and of the two lists a call is lent
-pub const LEND: u64 = 0x646e656c;
+#[derive(Clone, Copy)]
+pub enum Name {
+    // lend BYTES NUMBERS VALUES: how much of the area and of the two lists a call is lent
+    Lend,
 
-// fill PLACE COUNT BYTE: so many bytes of the area become this one
-pub const FILL: u64 = 0x6c6c6966;
+    // fill PLACE COUNT BYTE: so many bytes of the area become this one
+    Fill,
 
-// append LENGTH BYTE STEP: the number and the count of stores; byte i of the message is BYTE + i * STEP
-pub const APPEND: u64 = 0x646e65707061;
+    // append LENGTH BYTE STEP: the number and the count of stores; byte i of the message is BYTE + i * STEP
+    Append,
 
-// after LAST LENGTH BYTE STEP: the same by append_after, which is lent this number
-pub const AFTER: u64 = 0x7265746661;
+    // after LAST LENGTH BYTE STEP: the same by append_after, which is lent this number
+    After,
 
-// recover: the highest complete number and the count of stores
-pub const RECOVER: u64 = 0x7265766f636572;
+    // recover: the highest complete number and the count of stores
+    Recover,
 
-// read NUMBER: the length of the part, and its first and its last word
-pub const READ: u64 = 0x64616572;
+    // read NUMBER: the length of the part, and its first and its last word
+    Read,
 
-// stores COUNT: so many first entries of the lists, word numbers and, on a line below, values
-pub const STORES: u64 = 0x7365726f7473;
+    // stores COUNT: so many first entries of the lists, word numbers and, on a line below, values
+    Stores,
 
-// word PLACE: a word of the area
-pub const WORD: u64 = 0x64726f77;
+    // word PLACE: a word of the area
+    Word,
 
-// play: all stores handed out last; the answer
-pub const PLAY: u64 = 0x79616c70;
+    // play: all stores handed out last; the answer
+    Play,
 
-// lines COUNTS: a cut that leaves so many stores of each line; a digit for each line of a cell, the marked line's last
-pub const LINES: u64 = 0x73656e696c;
+    // lines COUNTS: a cut that leaves so many stores of each line; a digit for each line of a cell, the marked line's
+    // last
+    // cells COUNTS: the same with a digit for each cell, cell 0's last
+    Cut(Group),
+}
 
-// cells COUNTS: the same with a digit for each cell, cell 0's last
-pub const CELLS: u64 = 0x736c6c6563;
+// The name that a line begins with, if it is one of these.
+pub fn message_name(line: &[u8]) -> Option<Name> {
+    match &line[..until(line, 0, b'a')] {
+        b"lend" => Some(Name::Lend),
+        b"fill" => Some(Name::Fill),
+        b"append" => Some(Name::Append),
+        b"after" => Some(Name::After),
+        b"recover" => Some(Name::Recover),
+        b"read" => Some(Name::Read),
+        b"stores" => Some(Name::Stores),
+        b"word" => Some(Name::Word),
+        b"play" => Some(Name::Play),
+        b"lines" => Some(Name::Cut(Group::Line)),
+        b"cells" => Some(Name::Cut(Group::Cell)),
+        _ => None,
+    }
+}
