@@ -5,7 +5,7 @@ ghost use Rattle.std.specs.Prelude.{◌≤◌};
 
 use crate::handed::{Handed, Lines};
 use crate::item::Named;
-use orderset::{State, play_list};
+use orderset::{State, play_list, return_code};
 use std::io::Stdout;
 
 // How many bytes, heads, next numbers and entries of the two lists a call is lent, the first ones of each.
@@ -81,6 +81,6 @@ impl Set {
             &handed.at[..n],
             &handed.value[..n],
         );
-        show::number(stdout, u64::from(answer));
+        show::number(stdout, u64::from(return_code(answer)));
     }
 }

@@ -1,11 +1,17 @@
 // The calls on the image without a key: format, recover and the plays.
 use crate::set::Set;
-use orderset::{Recovered, format, play, play_list, recover};
+use orderset::{Recovered, Refusal, format, play, play_list, recover, return_code};
 use std::io::Stdout;
 use words_code::read_word;
 
 // A play's answer, and how many bytes of the two images differ.
-fn show_played(stdout: Stdout, answer: u32, before: &[u8; 640], image: &[u8; 640]) {
+fn show_played(
+    stdout: Stdout,
+    answer: Result<(), Refusal>,
+    before: &[u8; 640],
+    image: &[u8; 640],
+) {
+    let answer = return_code(answer);
     let changed = before.iter().zip(image).filter(|(a, b)| a != b).count();
     let _ = print!(stdout; " {answer} changed {changed}");
 }
@@ -52,7 +58,7 @@ impl Set {
         let stores = self.stores;
         let answer = play(&mut self.image[..lent.image], stores, first, second);
         show_played(stdout, answer, &before, &self.image);
-        if answer == 0 {
+        if answer.is_ok() {
             self.book.play(first >= 8 && second >= 8);
         }
     }
@@ -65,7 +71,7 @@ impl Set {
             &words,
             &value[..values.min(2)],
         );
-        show::number(stdout, u64::from(answer));
+        show::number(stdout, u64::from(return_code(answer)));
     }
 
     pub fn show_word(&self, stdout: Stdout, place: usize) {

@@ -3,8 +3,8 @@
 use crate::form::{Form, Named, Numbers};
 use crate::image::Image;
 use lists_code::lent::StoreList;
-use message_log::LogOutcome;
-use orderset::{BasketOutcome, Store};
+use message_log::LogStored;
+use orderset::{BasketOutcome, Refusal, Store, return_code};
 use std::io::Stdout;
 
 // An image or an area, and the lists of stores in the form of the calls on this side.
@@ -38,21 +38,21 @@ impl<F: Form> Side<F> {
         let size = self.image.size;
         let bytes = &mut self.image.bytes[..];
         let answer = self.handed.play_first(&mut bytes[..size], count);
-        show::number(stdout, u64::from(answer));
+        show::number(stdout, u64::from(return_code(answer)));
     }
 }
 
 // The answer of a call of the log is printed; how many stores were handed out.
-fn show_log_form(stdout: Stdout, answer: LogOutcome) -> usize {
+fn show_log_form(stdout: Stdout, answer: Result<LogStored, Refusal>) -> usize {
     match answer {
-        LogOutcome::Stored { number, count } => {
+        Ok(LogStored { number, count }) => {
             show::text(stdout, b" ok");
             show::number(stdout, number);
             show::number(stdout, count as u64);
             count
         }
-        LogOutcome::Refused(number) => {
-            show::refused(stdout, number);
+        Err(refusal) => {
+            show::refused(stdout, refusal.code());
             0
         }
     }

@@ -2,8 +2,8 @@
 use crate::image::Image;
 use lists_code::lent::StoreList;
 use log_code::{append, recover_log};
-use message_log::LogOutcome;
-use orderset::{Action, BasketAnswer, BasketItem, Mode, basket, basket2, play_list};
+use message_log::LogStored;
+use orderset::{Action, BasketAnswer, BasketItem, Mode, Refusal, basket, basket2, play_list};
 
 // The items of a basket; every byte of their values is `byte`. Of more than eight only the count is kept.
 #[derive(Clone, Copy)]
@@ -52,12 +52,12 @@ impl Named {
 pub trait Form {
     fn run_basket_on(&mut self, image: &mut Image, layout: u64, named: &Named) -> BasketAnswer;
 
-    fn append_to(&mut self, area: &[u8], message: &[u8]) -> LogOutcome;
+    fn append_to(&mut self, area: &[u8], message: &[u8]) -> Result<LogStored, Refusal>;
 
-    fn recover_from(&mut self, area: &[u8]) -> LogOutcome;
+    fn recover_from(&mut self, area: &[u8]) -> Result<LogStored, Refusal>;
 
     // Plays so many first stores.
-    fn play_first(&self, image: &mut [u8], count: usize) -> u32;
+    fn play_first(&self, image: &mut [u8], count: usize) -> Result<(), Refusal>;
 }
 
 // Word numbers and values of stores.
@@ -105,15 +105,15 @@ impl Form for Numbers {
         }
     }
 
-    fn append_to(&mut self, area: &[u8], message: &[u8]) -> LogOutcome {
+    fn append_to(&mut self, area: &[u8], message: &[u8]) -> Result<LogStored, Refusal> {
         append(area, message, &mut self.at, &mut self.value)
     }
 
-    fn recover_from(&mut self, area: &[u8]) -> LogOutcome {
+    fn recover_from(&mut self, area: &[u8]) -> Result<LogStored, Refusal> {
         recover_log(area, &mut self.at, &mut self.value)
     }
 
-    fn play_first(&self, image: &mut [u8], count: usize) -> u32 {
+    fn play_first(&self, image: &mut [u8], count: usize) -> Result<(), Refusal> {
         let n = count.min(48);
         play_list(image, &self.at[..n], &self.value[..n])
     }
@@ -140,15 +140,15 @@ impl Form for StoreList {
         )
     }
 
-    fn append_to(&mut self, area: &[u8], message: &[u8]) -> LogOutcome {
+    fn append_to(&mut self, area: &[u8], message: &[u8]) -> Result<LogStored, Refusal> {
         self.append_lent(area, message)
     }
 
-    fn recover_from(&mut self, area: &[u8]) -> LogOutcome {
+    fn recover_from(&mut self, area: &[u8]) -> Result<LogStored, Refusal> {
         self.recover_lent(area)
     }
 
-    fn play_first(&self, image: &mut [u8], count: usize) -> u32 {
+    fn play_first(&self, image: &mut [u8], count: usize) -> Result<(), Refusal> {
         self.play_stores_lent(image, count)
     }
 }

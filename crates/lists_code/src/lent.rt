@@ -7,13 +7,15 @@ ghost use Rattle.message_log.specs.Recover.{log_recover_list_result};
 ghost use Rattle.calls.specs.Basket.{basket_result};
 ghost use Rattle.calls.specs.BasketItems.{changes_of};
 ghost use Rattle.calls.specs.BasketList.{basket_list_end, buffers_after_list};
+ghost use Rattle.refusals.specs.Number.{fault_in};
 ghost use Rattle.stores.specs.Play.{word_numbers, values as values_of, play_end, play_list_result};
 
 use calls::{BasketAnswer, BasketItem};
 use calls_basket_list_code::list::{basket_list, basket_list2};
 use index::State;
 use log_list_code::{append_list, recover_list};
-use message_log::LogOutcome;
+use message_log::LogStored;
+use refusals::Refusal;
 use stores::Store;
 use stores_list_code::play::play_stores;
 
@@ -23,13 +25,13 @@ pub struct StoreList {
 }
 
 impl StoreList {
-    pub fn append_lent(&mut self, area: &[u8], message: &[u8]) -> LogOutcome
+    pub fn append_lent(&mut self, area: &[u8], message: &[u8]) -> Result<LogStored, Refusal>
         ensures listed { log_list_end (log_answer result) self.new.stores ≡ append_list_result area.now message.now self.old.stores }
     {
         append_list(area, message, &mut self.stores)
     }
 
-    pub fn recover_lent(&mut self, area: &[u8]) -> LogOutcome
+    pub fn recover_lent(&mut self, area: &[u8]) -> Result<LogStored, Refusal>
         ensures listed { log_list_end (log_answer result) self.new.stores ≡ log_recover_list_result area.now self.old.stores }
     {
         recover_list(area, &mut self.stores)
@@ -62,8 +64,8 @@ impl StoreList {
     }
 
     // So many first stores are played, or all.
-    pub fn play_stores_lent(&self, image: &mut [u8], count: usize) -> u32
-        ensures played { play_end result image.new
+    pub fn play_stores_lent(&self, image: &mut [u8], count: usize) -> Result<(), Refusal>
+        ensures played { play_end (fault_in result) image.new
             ≡ play_list_result image.old (word_numbers (take count self.now.stores)) (values_of (take count self.now.stores)) }
     {
         play_stores(image, &self.stores[..count.min(48)])

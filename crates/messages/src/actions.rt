@@ -1,7 +1,7 @@
 // The calls of the log, and play.
 use crate::lent::Log;
-use log_code::{LogOutcome, append, append_after, read, recover_log};
-use orderset::play_list;
+use log_code::{LogStored, append, append_after, read, recover_log};
+use orderset::{Refusal, play_list, return_code};
 use std::io::Stdout;
 use words_code::{padded_word, read_word};
 
@@ -18,7 +18,7 @@ fn message_of(byte: u64, step: u64) -> [u8; 400] {
 
 impl Log {
     // A call that hands out stores is lent the fronts; its answer is printed.
-    fn hand_out<F: FnOnce(&[u8], &mut [u32], &mut [u64]) -> LogOutcome>(
+    fn hand_out<F: FnOnce(&[u8], &mut [u32], &mut [u64]) -> Result<LogStored, Refusal>>(
         &mut self,
         stdout: Stdout,
         call: F,
@@ -34,14 +34,14 @@ impl Log {
             &mut value[..lent.value],
         );
         self.count = match answer {
-            LogOutcome::Stored { number, count } => {
+            Ok(LogStored { number, count }) => {
                 show::text(stdout, b" ok");
                 show::number(stdout, number);
                 show::number(stdout, count as u64);
                 count
             }
-            LogOutcome::Refused(number) => {
-                show::refused(stdout, number);
+            Err(refusal) => {
+                show::refused(stdout, refusal.code());
                 0
             }
         };
@@ -74,11 +74,13 @@ impl Log {
     }
 
     pub fn show_part(&self, stdout: Stdout, number: u64) {
-        let mut refusal = 0;
-        let part = read(&self.area[..self.lent.area], number, &mut refusal);
-        if refusal != 0 {
-            show::refused(stdout, refusal);
-        }
+        let part = match read(&self.area[..self.lent.area], number) {
+            Ok(part) => part,
+            Err(refusal) => {
+                show::refused(stdout, refusal.code());
+                &[]
+            }
+        };
         show::text(stdout, b" length");
         show::number(stdout, part.len() as u64);
         show_ends(stdout, part);
@@ -89,7 +91,7 @@ impl Log {
         let lent = self.lent;
         let area = &mut self.area[..];
         let answer = play_list(&mut area[..lent.area], &self.at[..n], &self.value[..n]);
-        show::number(stdout, u64::from(answer));
+        show::number(stdout, u64::from(return_code(answer)));
     }
 
     pub fn show_log_stores(&self, stdout: Stdout, count: u64) {
