@@ -20,7 +20,7 @@ fn open_slots(image: &mut [u8], invalidations: Invalidations)
     ensures { image.new ≡ played_all image.old (stores_in invalidations) }
 {
     let count = invalidations.count as usize;
-    play_list(
+    let _ = play_list(
         image,
         &invalidations.at[..count],
         &invalidations.value[..count],
@@ -101,7 +101,7 @@ fn play_or_cut(
     let reply = Reply::Stored { slot, version };
     match session.waiting {
         None => {
-            play_list(image, &stores.at, &stores.value);
+            let _ = play_list(image, &stores.at, &stores.value);
             Stepped {
                 reply,
                 session: Session {
@@ -111,7 +111,7 @@ fn play_or_cut(
             }
         }
         Some(cut) => {
-            play(image, stores, cut.a, cut.b);
+            let _ = play(image, stores, cut.a, cut.b);
             recover_session(reply, session.n, image, heads, next)
         }
     }
