@@ -10,9 +10,7 @@ ghost use Rattle.recovery.specs.inner.Report.{RecoveredWith};
 use layout_code::header::{lent_fault, slot_count};
 use recovery::{Classes, RecoverAnswer, Recovered, RecoveryReport};
 use recovery_judge_code::settling::no_invalidations;
-use recovery_scratch_code::scratch::{
-    recover_64, recover_256, recover_1024, recover_4096, recover_16384, recover_65536,
-};
+use recovery_scratch_code::scratch::recover_sized;
 
 // Recover, in layout l, and how many slots are of each class.
 pub fn recover_in(image: &[u8], l: usize, heads: &mut [u32], next: &mut [u32]) -> RecoveryReport
@@ -38,22 +36,14 @@ pub fn recover_in(image: &[u8], l: usize, heads: &mut [u32], next: &mut [u32]) -
         };
     }
     let n = slot_count(image.len());
-    if n < 64 {
-        return recover_64(image, l, heads, next, n);
+    match n {
+        ..64 => recover_sized::<64>(image, l, heads, next, n),
+        64..256 => recover_sized::<256>(image, l, heads, next, n),
+        256..1024 => recover_sized::<1024>(image, l, heads, next, n),
+        1024..4096 => recover_sized::<4096>(image, l, heads, next, n),
+        4096..16384 => recover_sized::<16384>(image, l, heads, next, n),
+        _ => recover_sized::<65536>(image, l, heads, next, n),
     }
-    if n < 256 {
-        return recover_256(image, l, heads, next, n);
-    }
-    if n < 1024 {
-        return recover_1024(image, l, heads, next, n);
-    }
-    if n < 4096 {
-        return recover_4096(image, l, heads, next, n);
-    }
-    if n < 16384 {
-        return recover_16384(image, l, heads, next, n);
-    }
-    recover_65536(image, l, heads, next, n)
 }
 
 // The index of the image: the state beside the rebuilt heads and next with the invalidating stores, or a
