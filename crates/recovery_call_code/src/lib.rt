@@ -7,7 +7,7 @@ ghost use Rattle.layout.specs.Record.{Layout};
 ghost use Rattle.recovery.specs.Recover.{recover_result, recover_end};
 ghost use Rattle.recovery.specs.inner.Report.{RecoveredWith};
 
-use layout_code::header::{lent_fault, slot_count};
+use layout_code::header::check_lent;
 use recovery::{Classes, RecoverAnswer, Recovered, RecoveryReport};
 use recovery_judge_code::settling::no_invalidations;
 use recovery_scratch_code::scratch::recover_sized;
@@ -17,25 +17,26 @@ pub fn recover_in(image: &[u8], l: usize, heads: &mut [u32], next: &mut [u32]) -
     requires { Layout l }
     ensures result { RecoveredWith l image.now heads.old next.old heads.new next.new result }
 {
-    let fault = lent_fault(image, l, heads.len(), next.len());
-    if fault != 0 {
-        return RecoveryReport {
-            answer: RecoverAnswer {
-                recovered: Recovered::Refused {
-                    number: fault,
-                    slot: 0,
+    let n = match check_lent(image, l, heads.len(), next.len()) {
+        Ok(n) => n,
+        Err(refusal) => {
+            return RecoveryReport {
+                answer: RecoverAnswer {
+                    recovered: Recovered::Refused {
+                        number: refusal.code(),
+                        slot: 0,
+                    },
+                    invalidations: no_invalidations(),
                 },
-                invalidations: no_invalidations(),
-            },
-            classes: Classes {
-                broken: 0,
-                empty: 0,
-                puts: 0,
-                removes: 0,
-            },
-        };
-    }
-    let n = slot_count(image.len());
+                classes: Classes {
+                    broken: 0,
+                    empty: 0,
+                    puts: 0,
+                    removes: 0,
+                },
+            };
+        }
+    };
     match n {
         ..64 => recover_sized::<64>(image, l, heads, next, n),
         64..256 => recover_sized::<256>(image, l, heads, next, n),
