@@ -1,5 +1,4 @@
 -- Answers of `stores_record_code::record::fill_frame`.
-use borrow.Author.Rules.{rules}
 use Rattle.stores.proofs.Pasted.{frame_pasted}
 use Rattle.stores_record_code.proofs.record.fill_frame.Goals as goal
 

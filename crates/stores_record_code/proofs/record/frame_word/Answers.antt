@@ -1,7 +1,6 @@
 -- Answers of `stores_record_code::record::frame_word`.
 use mathlib.Core.Path.{sym}
 use native.Mathlib.Omega.{arith}
-use borrow.Author.Rules.{rules}
 use Rattle.stores.proofs.RecordStores.{in_key, in_kind, past_kind}
 use Rattle.stores_record_code.proofs.record.frame_word.Goals as goal
 
@@ -13,6 +12,6 @@ pub returns-then-i-l-2 : goal.returns-then-i-l-2
 returns-then-i-l-2 c =
     search in_kind
 
-pub returns : goal.returns
-returns c =
+pub returns-else-i-l-2 : goal.returns-else-i-l-2
+returns-else-i-l-2 c =
     sym (past_kind _ _ _ _ (omega arith))

@@ -1,5 +1,4 @@
 -- Answers of `stores_record_code::record::record_stores_at`.
-use borrow.Author.Rules.{rules}
 use Rattle.stores.proofs.Pasted.{numbers_pasted, values-pasted}
 use Rattle.stores_record_code.proofs.record.record_stores_at.Goals as goal
 
