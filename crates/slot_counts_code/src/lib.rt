@@ -44,17 +44,13 @@ fn count_slots_in(image: &[u8], l: usize, heads: &mut [u32], next: &mut [u32]) -
     ensures { count_end result heads.new next.new ≡ count_result l image.now heads.old next.old }
 {
     let report = recover_in(image, l, heads, next);
-    let classes = report.classes;
-    let answer = report.answer;
-    let invalidations = answer.invalidations;
-    let recovered = answer.recovered;
-    match recovered {
+    match report.answer.recovered {
         Recovered::Rebuilt(state) => CountAnswer::Counted(count_accepted(
             image,
             l,
-            classes,
+            report.classes,
             state.live,
-            invalidations,
+            report.answer.invalidations,
         )),
         Recovered::Refused { number, slot } => CountAnswer::Refused { number, slot },
     }

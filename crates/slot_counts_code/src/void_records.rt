@@ -12,16 +12,12 @@ pub fn void_removes(image: &[u8], l: usize, invalidations: Invalidations) -> u32
     requires { OpensVoid image.now l invalidations }
     ensures result { result ≡ void_removes (contents_of l image.now) (size_fields_of l image.now) (slots_in image.now) }
 {
-    let count = invalidations.count as usize;
-    let at = invalidations.at;
     let mut removes = 0;
-    let mut i = 0;
-    while i < count {
-        let s = (at[i] / 16) as usize;
+    for i in 0..invalidations.count as usize {
+        let s = (invalidations.at[i] / 16) as usize;
         if slot_kind(image, l, s) == 2 {
             removes += 1;
         }
-        i += 1;
     }
     removes
 }

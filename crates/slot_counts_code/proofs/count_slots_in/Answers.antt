@@ -1,5 +1,4 @@
 -- Answers of `slot_counts_code::count_slots_in`.
-use borrow.Author.Rules.{rules}
 use Rattle.slot_counts.proofs.Answers.{count_refused, accepted, count_taken}
 use Rattle.slot_counts_code.proofs.count_slots_in.Goals as goal
 

@@ -1,39 +1,20 @@
 -- Answers of `slot_counts_code::void_records::void_removes`.
-use mathlib.Core.Logic.{⊎_elim}
-use Prim.Native.Nat.{◌-◌}
 use native.Mathlib.Omega.{arith}
-use borrow.Author.Rules.{rules}
-use Rattle.slot_counts.proofs.VoidRecords.{Removing, opened_count, removing_start, opened_inside, removing_more, removing_same, removing_end}
+use Rattle.slot_counts.proofs.VoidRecords.{opened_count, removing_start, opened_inside, removing_more, removing_same, removing_end}
 use Rattle.slot_counts_code.proofs.void_records.void_removes.Goals as goal
 use Rattle.slot_counts_code.proofs.void_records.void_removes.Goals.{then-slot_kind-eq2, else-slot_kind-eq2}
-
-pub overflow_cast-count : goal.overflow_cast-count
-overflow_cast-count c =
-    omega (arith, opened_count _ _ _ c.requires, c.requires.few)
 
 pub loop-i-init : goal.loop-i-init
 loop-i-init c =
     removing_start _ _ _ c.requires
 
-pub offset_bounds-at-i : goal.offset_bounds-at-i
-offset_bounds-at-i c =
+pub bounds-invalidations-i : goal.bounds-invalidations-i
+bounds-invalidations-i c =
     omega (arith, opened_count _ _ _ c.requires, c.loop-i-test.true, c.requires.few)
-
-pub bounds-at-i : goal.bounds-at-i
-bounds-at-i c =
-    omega (arith, opened_count _ _ _ c.requires, c.loop-i-test.true, c.requires.few)
-
-pub overflow_cast-s : goal.overflow_cast-s
-overflow_cast-s c =
-    omega (arith, opened_inside _ _ _ c.requires _ c.loop-i-test.true)
 
 pub slot_kind-requires : goal.slot_kind-requires
 slot_kind-requires c =
     record { layout = c.requires.layout; room = opened_inside _ _ _ c.requires _ c.loop-i-test.true }
-
-pub overflow_add-removes : goal.overflow_add-removes
-overflow_add-removes c =
-    omega (arith, c.loop-i.invariant.few, c.loop-i.invariant.inside, c.requires.few)
 
 pub loop-i-preserved : goal.loop-i-preserved
 loop-i-preserved c =
