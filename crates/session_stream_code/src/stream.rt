@@ -3,7 +3,7 @@ ghost use Rattle.std.specs.Prelude.{◌≡◌};
 ghost use Rattle.session.specs.Stream.{stream_end, at_start, with_byte, answer_result, byte_result, end_result};
 ghost use Rattle.session.specs.Step.{step_result};
 
-use session::Progress;
+use session::{Progress, Stepped};
 use session_code::start::empty_session;
 use session_code::step::step;
 use text::Parse;
@@ -33,17 +33,12 @@ fn answer_line(
     ensures stream { stream_end result image.new heads.new next.new out.new ≡
         answer_result step_result s image.old heads.old next.old out.old }
 {
-    let parse = s.parse;
-    let session = s.session;
-    let stepped = step(finish(parse), session, image, heads, next);
-    let reply = stepped.reply;
-    let at = render(reply, out, s.at);
-    let after = stepped.session;
+    let Stepped { reply, session } = step(finish(s.parse), s.session, image, heads, next);
     Progress {
         parse: Parse::Start,
         begun: false,
-        session: after,
-        at,
+        session,
+        at: render(reply, out, s.at),
     }
 }
 
@@ -51,13 +46,10 @@ fn answer_line(
 pub fn add_byte(s: Progress, byte: u8) -> Progress
     ensures stream { result ≡ with_byte s byte }
 {
-    let parse = s.parse;
-    let session = s.session;
     Progress {
-        parse: feed(parse, byte),
+        parse: feed(s.parse, byte),
         begun: true,
-        session,
-        at: s.at,
+        ..s
     }
 }
 
@@ -73,7 +65,7 @@ pub fn take_byte(
     ensures stream { stream_end result image.new heads.new next.new out.new ≡
         byte_result step_result s byte image.old heads.old next.old out.old }
 {
-    if byte == 10 {
+    if byte == b'\n' {
         return answer_line(s, image, heads, next, out);
     }
     add_byte(s, byte)

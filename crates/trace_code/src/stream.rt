@@ -3,7 +3,7 @@ ghost use Rattle.std.specs.Prelude.{◌≡◌, length};
 ghost use Rattle.session.specs.Stream.{stream_end, answer_result, byte_result, end_result};
 ghost use Rattle.trace.specs.Step.{trace_result};
 
-use session::Progress;
+use session::{Progress, Stepped};
 use session_stream_code::stream::add_byte;
 use text::Parse;
 use text_code::input::finish;
@@ -24,17 +24,20 @@ fn trace_answer(
         answer_result (trace_result (length copy.old) (length later.old))
         s image.old heads.old next.old out.old }
 {
-    let parse = s.parse;
-    let session = s.session;
-    let stepped = trace_step(finish(parse), session, image, heads, next, copy, later);
-    let reply = stepped.reply;
-    let at = render(reply, out, s.at);
-    let after = stepped.session;
+    let Stepped { reply, session } = trace_step(
+        finish(s.parse),
+        s.session,
+        image,
+        heads,
+        next,
+        copy,
+        later,
+    );
     Progress {
         parse: Parse::Start,
         begun: false,
-        session: after,
-        at,
+        session,
+        at: render(reply, out, s.at),
     }
 }
 
@@ -53,7 +56,7 @@ pub fn trace_byte(
         byte_result (trace_result (length copy.old) (length later.old))
         s byte image.old heads.old next.old out.old }
 {
-    if byte == 10 {
+    if byte == b'\n' {
         return trace_answer(s, image, heads, next, copy, later, out);
     }
     add_byte(s, byte)

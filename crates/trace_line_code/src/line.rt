@@ -20,8 +20,7 @@ fn try_cuts(image: &[u8], stores: Stores, copy: &mut [u8], later: &mut [u8]) -> 
     ensures counts { reply_says result ≡
         tried_counts image.now (zipped stores.at stores.value) (length copy.old) (length later.old) }
 {
-    let counts = count_cuts(image, stores, copy, later);
-    match counts {
+    match count_cuts(image, stores, copy, later) {
         CutCounts::Counted { earlier, later: n } => Reply::Counted { earlier, later: n },
         CutCounts::Refused(_) => Reply::Nothing,
     }
@@ -39,14 +38,9 @@ fn try_change(
         answer_counts image.now (zipped stores.at stores.value) (length copy.old) (length later.old)
         (change_says change.outcome) }
 {
-    let outcome = change.outcome;
-    match outcome {
-        Outcome::Stored {
-            slot: _,
-            version: _,
-        } => try_cuts(image, stores, copy, later),
-        Outcome::Absent => Reply::Nothing,
-        Outcome::Refused(_) => Reply::Nothing,
+    match change.outcome {
+        Outcome::Stored { .. } => try_cuts(image, stores, copy, later),
+        Outcome::Absent | Outcome::Refused(_) => Reply::Nothing,
     }
 }
 
@@ -67,11 +61,9 @@ fn trace_change(
         (change_step session image.old (change_end change stores.at stores.value heads.old next.old)) }
 {
     let reply = try_change(change, stores, image, copy, later);
-    let stepped = carry_change(change, stores, session, image, heads, next);
-    let after = stepped.session;
     Stepped {
         reply,
-        session: after,
+        ..carry_change(change, stores, session, image, heads, next)
     }
 }
 
@@ -91,10 +83,18 @@ fn trace_write(
         (Write key word) session image.old heads.old next.old)
         (line_step (Write key word) session image.old heads.old next.old) }
 {
-    let state = session.state;
     let mut at = [0u32; 16];
     let mut value = [0u64; 16];
-    let change = write_key(image, heads, next, state, key, word, &mut at, &mut value);
+    let change = write_key(
+        image,
+        heads,
+        next,
+        session.state,
+        key,
+        word,
+        &mut at,
+        &mut value,
+    );
     trace_change(
         change,
         Stores { at, value },
@@ -122,10 +122,9 @@ fn trace_remove(
         (Remove key) session image.old heads.old next.old)
         (line_step (Remove key) session image.old heads.old next.old) }
 {
-    let state = session.state;
     let mut at = [0u32; 16];
     let mut value = [0u64; 16];
-    let change = remove(image, heads, next, state, key, &mut at, &mut value);
+    let change = remove(image, heads, next, session.state, key, &mut at, &mut value);
     trace_change(
         change,
         Stores { at, value },
@@ -149,11 +148,9 @@ fn carry_silently(
     ensures step { step_end result image.new heads.new next.new ≡
         printing nothing (line_step line session image.old heads.old next.old) }
 {
-    let stepped = carry_line(line, session, image, heads, next);
-    let after = stepped.session;
     Stepped {
         reply: Reply::Nothing,
-        session: after,
+        ..carry_line(line, session, image, heads, next)
     }
 }
 
@@ -173,13 +170,10 @@ pub fn trace_line(
         (line_step line session image.old heads.old next.old) }
 {
     match line {
-        Line::New(_) => carry_silently(line, session, image, heads, next),
         Line::Write { key, word } => {
             trace_write(key, word, session, image, heads, next, copy, later)
         }
         Line::Remove(key) => trace_remove(key, session, image, heads, next, copy, later),
-        Line::Get(_) => carry_silently(line, session, image, heads, next),
-        Line::Cut { a: _, b: _ } => carry_silently(line, session, image, heads, next),
-        Line::Bad => carry_silently(line, session, image, heads, next),
+        _ => carry_silently(line, session, image, heads, next),
     }
 }

@@ -14,12 +14,8 @@ fn without_cut(line: Line) -> Line
     ensures line { result ≡ without_cut line }
 {
     match line {
-        Line::New(_) => line,
-        Line::Write { key: _, word: _ } => line,
-        Line::Remove(_) => line,
-        Line::Get(_) => line,
-        Line::Cut { a: _, b: _ } => Line::Bad,
-        Line::Bad => line,
+        Line::Cut { .. } => Line::Bad,
+        _ => line,
     }
 }
 

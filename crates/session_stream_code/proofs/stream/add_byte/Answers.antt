@@ -3,11 +3,6 @@ use Rattle.session.specs.Stream.{with_byte}
 use borrow.Author.Rules.{rules}
 use Rattle.session_stream_code.proofs.stream.add_byte.Goals as goal
 
-pub feed-requires : goal.feed-requires
-unfolding with_byte
-feed-requires c =
-    search rules
-
 pub returns : goal.returns
 unfolding with_byte
 returns c =

@@ -4,11 +4,6 @@ use Rattle.session.specs.Stream.{end_result}
 use borrow.Author.Rules.{rules}
 use Rattle.session_stream_code.proofs.stream.end_input.Goals as goal
 
-pub answer_line-requires : goal.answer_line-requires
-unfolding end_result
-answer_line-requires c =
-    search rules
-
 pub returns-then-s : goal.returns-then-s
 unfolding end_result
 returns-then-s c =

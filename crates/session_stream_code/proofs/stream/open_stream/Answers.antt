@@ -1,12 +1,6 @@
 -- Answers of `session_stream_code::stream::open_stream`.
 use Rattle.session.specs.Stream.{at_start}
-use borrow.Author.Rules.{rules}
 use Rattle.session_stream_code.proofs.stream.open_stream.Goals as goal
-
-pub empty_session-requires : goal.empty_session-requires
-unfolding at_start
-empty_session-requires c =
-    search rules
 
 pub returns : goal.returns
 unfolding at_start

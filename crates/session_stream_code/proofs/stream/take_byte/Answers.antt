@@ -1,23 +1,12 @@
 -- Answers of `session_stream_code::stream::take_byte`.
 use Rattle.session.specs.Stream.{byte_result}
 use Rattle.prelude.proofs.Tests.{tests}
-use borrow.Author.Rules.{rules}
 use Rattle.session_stream_code.proofs.stream.take_byte.Goals as goal
-
-pub answer_line-requires : goal.answer_line-requires
-unfolding byte_result
-answer_line-requires c =
-    search rules
 
 pub returns-then-byte-eq10 : goal.returns-then-byte-eq10
 unfolding byte_result
 returns-then-byte-eq10 c =
     record { stream = (search tests) }
-
-pub add_byte-requires : goal.add_byte-requires
-unfolding byte_result
-add_byte-requires c =
-    search rules
 
 pub returns : goal.returns
 unfolding byte_result

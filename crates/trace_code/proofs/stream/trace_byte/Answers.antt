@@ -1,7 +1,6 @@
 -- Answers of `trace_code::stream::trace_byte`.
 use Rattle.session.specs.Stream.{byte_result}
 use Rattle.prelude.proofs.Tests.{tests}
-use borrow.Author.Rules.{rules}
 use Rattle.trace_code.proofs.stream.trace_byte.Goals as goal
 
 -- `trace_code::stream::trace_byte` meets its contract. Assumes nothing.

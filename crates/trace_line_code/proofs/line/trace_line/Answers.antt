@@ -1,16 +1,28 @@
 -- Answers of `trace_line_code::line::trace_line`.
-use mathlib.Core.Path.{refl}
+use mathlib.Core.List.{List}
+use mathlib.Core.Path.{◌≡◌, refl}
+use Prim.Native.Nat.{ℕ}
+use Rattle.text.specs.Output.{nothing}
+use Rattle.text.specs.declared.Line.{Line}
+use Rattle.text.specs.declared.Line.TheVariants.{New, Write, Remove, Get, Cut, Bad}
+use Rattle.session.specs.declared.Session.{Session}
 use Rattle.trace.specs.Step.{line_counts}
 use Rattle.trace.proofs.Steps.{silent_line}
-use borrow.Author.Rules.{rules}
 use Rattle.trace_line_code.proofs.line.trace_line.Goals as goal
 
--- `trace_line_code::line::trace_line` meets its contract. Assumes nothing.
-pub returns-in-New : goal.returns-in-New
+-- a line that stores nothing prints nothing
+silent : (copy later : ℕ) (line : Line) (s : Session) (image heads next : List ℕ)
+    → ((key word : ℕ) → line ≡ Write key word → ⊥) → ((key : ℕ) → line ≡ Remove key → ⊥)
+    → line_counts copy later line s image heads next ≡ nothing
 unfolding line_counts
-returns-in-New c =
-    record { step = (silent_line _ _ _ _ _ _ _ _ _ c.in-New.is refl c.carry_silently.ensures.step) }
+silent copy later (New n) s image heads next no_write no_remove = refl
+silent copy later (Write key word) s image heads next no_write no_remove = absurd (no_write key word refl)
+silent copy later (Remove key) s image heads next no_write no_remove = absurd (no_remove key refl)
+silent copy later (Get key) s image heads next no_write no_remove = refl
+silent copy later (Cut a b) s image heads next no_write no_remove = refl
+silent copy later Bad s image heads next no_write no_remove = refl
 
+-- `trace_line_code::line::trace_line` meets its contract. Assumes nothing.
 pub returns-in-Write : goal.returns-in-Write
 returns-in-Write c =
     record { step = (rw c.in-Write.is c.trace_write.ensures.step) }
@@ -19,17 +31,9 @@ pub returns-in-Remove : goal.returns-in-Remove
 returns-in-Remove c =
     record { step = (rw c.in-Remove.is c.trace_remove.ensures.step) }
 
-pub returns-in-Get : goal.returns-in-Get
-unfolding line_counts
-returns-in-Get c =
-    record { step = (silent_line _ _ _ _ _ _ _ _ _ c.in-Get.is refl c.carry_silently-in-Get.ensures.step) }
-
-pub returns-in-Cut : goal.returns-in-Cut
-unfolding line_counts
-returns-in-Cut c =
-    record { step = (silent_line _ _ _ _ _ _ _ _ _ c.in-Cut.is refl c.carry_silently-in-Cut.ensures.step) }
-
-pub returns-in-Bad : goal.returns-in-Bad
-unfolding line_counts
-returns-in-Bad c =
-    record { step = (silent_line _ _ _ _ _ _ _ _ _ c.in-Bad.is refl c.carry_silently-in-Bad.ensures.step) }
+pub returns-in_default : goal.returns-in_default
+returns-in_default c =
+    record {
+      step = (silent_line _ _ _ _ _ _ _ _ _ refl
+          (silent _ _ _ _ _ _ _ c.in_default.not-Write c.in_default.not-Remove) c.carry_silently.ensures.step);
+    }

@@ -1,10 +1,8 @@
 -- Answers of `trace_line_code::line::trace_remove`.
 use mathlib.Core.Path.{ap, ◌∙◌}
-use Rattle.interface.specs.Set.{CallResult}
 use Rattle.session.specs.Step.{line_step}
 use Rattle.trace.specs.Step.{line_counts}
 use Rattle.trace.proofs.Steps.{change_traced, remove_traced}
-use borrow.Author.Rules.{rules}
 use Rattle.trace_line_code.proofs.line.trace_remove.Goals as goal
 
 -- `trace_line_code::line::trace_remove` meets its contract. Assumes nothing.

@@ -3,7 +3,6 @@ use mathlib.Core.Path.{ap, ◌∙◌}
 use Rattle.session.specs.Step.{write_step, line_step}
 use Rattle.trace.specs.Step.{line_counts}
 use Rattle.trace.proofs.Steps.{change_traced, write_traced}
-use borrow.Author.Rules.{rules}
 use Rattle.trace_line_code.proofs.line.trace_write.Goals as goal
 
 -- `trace_line_code::line::trace_write` meets its contract. Assumes nothing.

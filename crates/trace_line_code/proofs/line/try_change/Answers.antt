@@ -1,4 +1,5 @@
 -- Answers of `trace_line_code::line::try_change`.
+use mathlib.Core.Logic.{inl, inr}
 use Rattle.interface.specs.Set.{change_says}
 use Rattle.text.specs.inner.Output.{reply_says}
 use Rattle.trace.specs.Step.{answer_counts}
@@ -14,9 +15,4 @@ returns-in-Stored c =
 pub returns-in-Absent : goal.returns-in-Absent
 unfolding reply_says answer_counts change_says
 returns-in-Absent c =
-    record { counts = (search (rules, c.in-Absent.is)) }
-
-pub returns-in-Refused : goal.returns-in-Refused
-unfolding reply_says answer_counts change_says
-returns-in-Refused c =
-    record { counts = (search (rules, c.in-Refused.is)) }
+    elim c.in-Absent.is [ inl e ↦ record { counts = (search (rules, e)) } | inr (number, e) ↦ record { counts = (search (rules, e)) } ]

@@ -11,7 +11,7 @@ unfolding reply_says cut_count_says
 returns-in-Counted c =
     record {
       counts = (tried _ _ _ _ _ _ _ _ _ c.in-Counted.is (search (rules, c.well_formed.1.0)) (search (rules, c.well_formed.1.0))
-          c.count_cuts-counts.ensures.result);
+          c.count_cuts.ensures.result);
     }
 
 pub returns-in-Refused : goal.returns-in-Refused
@@ -19,5 +19,5 @@ unfolding reply_says cut_count_says
 returns-in-Refused c =
     record {
       counts = (tried _ _ _ _ _ _ _ _ _ c.in-Refused.is (search (rules, c.well_formed.1.0)) (search (rules, c.well_formed.1.0))
-          c.count_cuts-counts.ensures.result);
+          c.count_cuts.ensures.result);
     }
