@@ -16,9 +16,7 @@ pub fn append_list(area: &[u8], message: &[u8], list: &mut [Store]) -> Result<Lo
     ensures result { log_list_end (log_answer result) list.new ≡ append_list_result area.now message.now list.old }
 {
     let made = append_made(area, message, list.len());
-    let at = made.at;
-    let value = made.value;
-    fill_store_list(list, &at, &value, made.stored);
+    fill_store_list(list, &made.at, &made.value, made.stored);
     made.answer
 }
 
@@ -28,8 +26,6 @@ pub fn recover_list(area: &[u8], list: &mut [Store]) -> Result<LogStored, Refusa
     ensures result { log_list_end (log_answer result) list.new ≡ log_recover_list_result area.now list.old }
 {
     let made = recovery_made(area, list.len());
-    let at = made.at;
-    let value = made.value;
-    fill_store_list(list, &at, &value, made.stored);
+    fill_store_list(list, &made.at, &made.value, made.stored);
     made.answer
 }

@@ -8,7 +8,7 @@ ghost use Rattle.message_log.specs.Recover.{recovery_stores, log_recover_fault};
 ghost use Rattle.message_log.specs.inner.List.{stored_count, StoresMade};
 
 use log_code::{append, recover_log};
-use message_log::{AppendMade, LogStored, RecoveryMade};
+use message_log::{LogMade, LogStored};
 use refusals::Refusal;
 use words_code::lesser;
 
@@ -23,7 +23,7 @@ fn stored_count(answer: Result<LogStored, Refusal>) -> usize
 }
 
 // An append for a list with this room.
-pub fn append_made(area: &[u8], message: &[u8], room: usize) -> AppendMade
+pub fn append_made(area: &[u8], message: &[u8], room: usize) -> LogMade<56>
     ensures result { StoresMade 56 room (append_fault area.now message.now room room)
         (next_message (cells_in area.now) (word area.now))
         (append_stores (cells_in area.now) (word area.now) message.now) result.answer result.stored result.at result.value }
@@ -33,7 +33,7 @@ pub fn append_made(area: &[u8], message: &[u8], room: usize) -> AppendMade
     let n = lesser(56, room);
     let answer = append(area, message, &mut at[..n], &mut value[..n]);
     let stored = stored_count(answer);
-    AppendMade {
+    LogMade {
         answer,
         stored,
         at,
@@ -42,7 +42,7 @@ pub fn append_made(area: &[u8], message: &[u8], room: usize) -> AppendMade
 }
 
 // A recovery for a list with this room.
-pub fn recovery_made(area: &[u8], room: usize) -> RecoveryMade
+pub fn recovery_made(area: &[u8], room: usize) -> LogMade<1000>
     ensures result { StoresMade 1000 room (log_recover_fault area.now room room)
         (highest (cells_in area.now) (word area.now)) (recovery_stores (cells_in area.now) (word area.now))
         result.answer result.stored result.at result.value }
@@ -52,7 +52,7 @@ pub fn recovery_made(area: &[u8], room: usize) -> RecoveryMade
     let n = lesser(1000, room);
     let answer = recover_log(area, &mut at[..n], &mut value[..n]);
     let stored = stored_count(answer);
-    RecoveryMade {
+    LogMade {
         answer,
         stored,
         at,

@@ -298,6 +298,20 @@ module _ (area : List ℕ) (last : ℕ) (message : List ℕ) (ats vals : ℕ) wh
                 };
               }
 
+-- an append after this number whose payload is planned is planned
+module _ (area : List ℕ) (last : ℕ) (message : List ℕ) (ats vals k : ℕ) (e : k ≡ cells_in area) (some : k ≡ 0 → ⊥) (unfit : ℕ)
+    (u : unfit ≡ message_fault (length message)) (fit : unfit ≡ 0) (over : ℕ) (v : over ≡ version_fault (suc last)) (fits : over ≡ 0) (cell : ℕ)
+    (p : cell ≡ (last + 1) % k) (pairs stores : ℕ) (g : PayloadPlanned area cell message pairs stores) where
+  fine : 0 ≡ area_fault area
+  fine = sym (is_area area k e some)
+
+  pub plan_done_after : (fault : ℕ) → fault ≡ short_fault (8 + stores) ats vals
+      → (fault ≡ append_after_fault area last message ats vals) × (fault ≡ 0 → AppendAfterReady area last message ats vals (last + 1) cell pairs (8 + stores))
+  plan_done_after fault r = (
+    plan_fault area last message ats vals fine (sym fit ∙ u) (sym fits ∙ v) k e (last + 1) cell (add-one last) p pairs stores g fault r,
+    (λ z. plan_ready area last message ats vals fine (sym fit ∙ u) (sym fits ∙ v) k e (last + 1) cell (add-one last) p pairs stores g (sym z ∙ r)),
+  )
+
 -- ---- the call
 
 module _ (area : List ℕ) (last : ℕ) (message at value : List ℕ) where
@@ -357,22 +371,15 @@ module _ (area message : List ℕ) (ats vals k : ℕ) (e : k ≡ cells_in area) 
 module _ (area message : List ℕ) (ats vals k : ℕ) (e : k ≡ cells_in area) (some : k ≡ 0 → ⊥) (unfit : ℕ) (u : unfit ≡ message_fault (length message))
     (fit : unfit ≡ 0) (top : ℕ) (f : top ≡ highest k (word area)) (over : ℕ) (v : over ≡ version_fault (top + 1)) (fits : over ≡ 0) (cell : ℕ)
     (p : cell ≡ (top + 1) % k) (pairs stores : ℕ) (g : PayloadPlanned area cell message pairs stores) where
-  fine : 0 ≡ area_fault area
-  fine = sym (is_area area k e some)
-
-  low : 0 ≡ version_fault (suc top)
-  low = sym fits ∙ v ∙ ap version_fault (add-one top)
-
   pub plan_done : (fault : ℕ) → fault ≡ short_fault (8 + stores) ats vals
       → (fault ≡ append_fault area message ats vals) × (fault ≡ 0 → AppendReady area message ats vals (top + 1) cell pairs (8 + stores))
-  plan_done fault r = (
-    fault_by area message ats vals k e top f fault
-    (plan_fault area top message ats vals fine (sym fit ∙ u) low k e (top + 1) cell (add-one top) p pairs stores g fault r),
-    (λ z.
-    ready_highest area message ats vals (top + 1) cell pairs (8 + stores)
-    (subst (λ (n : ℕ). AppendAfterReady area n message ats vals (top + 1) cell pairs (8 + stores)) (top_is area message ats vals k e top f)
-    (plan_ready area top message ats vals fine (sym fit ∙ u) low k e (top + 1) cell (add-one top) p pairs stores g (sym z ∙ r)))),
-  )
+  plan_done fault r =
+      let done = plan_done_after area top message ats vals k e some unfit u fit over (v ∙ ap version_fault (add-one top)) fits cell p pairs stores g fault r in (
+        fault_by area message ats vals k e top f fault done.0,
+        (λ z.
+            ready_highest area message ats vals (top + 1) cell pairs (8 + stores)
+            (subst (λ (n : ℕ). AppendAfterReady area n message ats vals (top + 1) cell pairs (8 + stores)) (top_is area message ats vals k e top f) (done.1 z))),
+      )
 
 module _ (area message : List ℕ) where
   pub no_area_first : (ats vals fault : ℕ) → fault ≡ area_fault area → (fault ≡ 0 → ⊥) → fault ≡ append_fault area message ats vals

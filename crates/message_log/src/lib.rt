@@ -33,21 +33,12 @@ pub struct AppendPlan {
     pub count: usize,
 }
 
-// What an append gives back, with its stores: the first `stored` numbers of `at` are their word numbers, and those of
-// `value` their values.
+// What an append or a recovery gives back, with its stores: the first `stored` numbers of `at` are their word numbers,
+// and those of `value` their values.
 #[derive(Clone, Copy)]
-pub struct AppendMade {
+pub struct LogMade<const N: usize> {
     pub answer: Result<LogStored, Refusal>,
     pub stored: usize,
-    pub at: [u32; 56],
-    pub value: [u64; 56],
-}
-
-// The same of a recovery, which has a store for each cell at most.
-#[derive(Clone, Copy)]
-pub struct RecoveryMade {
-    pub answer: Result<LogStored, Refusal>,
-    pub stored: usize,
-    pub at: [u32; 1000],
-    pub value: [u64; 1000],
+    pub at: [u32; N],
+    pub value: [u64; N],
 }
