@@ -111,11 +111,6 @@ pair_next p n b e =
     before : n ≡ suc n - 1
     before = omega arith
 
-pub tallied_by : (t : Tally) (x y : Bool) (a b : ℕ) → a ≡ cond x (t.earlier + 1) t.earlier → b ≡ cond y (t.later + 1) t.later
-    → record { earlier = a; later = b } ≡ tallied t x y
-unfolding tallied
-tallied_by t x y a b p q = ap₂ (λ (u v : ℕ). record { earlier = u; later = v }) p q
-
 module _ (l : ℕ) (image at value last : List ℕ) where
   tally_none : (t : Tally) → t.earlier ≡ 0 → t.later ≡ 0 → t ≡ tally_of l image at value last 0
   unfolding tally_of count

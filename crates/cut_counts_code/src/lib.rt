@@ -7,7 +7,7 @@ ghost use Rattle.layout.specs.Record.{Layout};
 ghost use Rattle.cut_counts.specs.CutCount.{cut_count_end, cut_count_result};
 
 use cut_counts::CutCounts;
-use cut_counts_scratch_code::scratch::{count_512, count_65536};
+use cut_counts_scratch_code::scratch::count_sized;
 use layout_code::header::slot_count;
 use stores::Stores;
 
@@ -25,9 +25,10 @@ fn count_cuts_in(
 {
     let n = slot_count(image.len());
     if n < 512 {
-        return count_512(image, l, stores, copy, later, n);
+        count_sized::<512>(image, l, stores, copy, later, n)
+    } else {
+        count_sized::<65536>(image, l, stores, copy, later, n)
     }
-    count_65536(image, l, stores, copy, later, n)
 }
 
 // How many of the 81 cuts leave the map of the image and how many that of the image with all stores played; or a

@@ -20,12 +20,9 @@ pub fn index_image(image: &[u8], l: usize, heads: &mut [u32], next: &mut [u32]) 
     requires { Layout l × FitsIndex image.now heads.old next.old }
     ensures result { IndexedBy l image.now heads.new next.new result }
 {
-    let report = recover_in(image, l, heads, next);
-    let answer = report.answer;
-    let recovered = answer.recovered;
-    match recovered {
+    match recover_in(image, l, heads, next).answer.recovered {
         Recovered::Rebuilt(state) => Indexed::Map(state.live),
-        Recovered::Refused { number, slot: _ } => Indexed::Nothing(number),
+        Recovered::Refused { number, .. } => Indexed::Nothing(number),
     }
 }
 
@@ -49,9 +46,7 @@ fn same_map(
     if first_live != second_live {
         return false;
     }
-    let n = slot_count(first.len());
-    let mut s = 1;
-    while s <= n {
+    for s in 1..=slot_count(first.len()) {
         let low = slot_low(first, s);
         let high = slot_high(first, l, s);
         if differ_at(
@@ -67,7 +62,6 @@ fn same_map(
         ) {
             return false;
         }
-        s += 1;
     }
     true
 }
@@ -88,21 +82,18 @@ pub fn have_one_map(
         × IndexedBy l second.now second_heads.now second_next.now second_index }
     ensures result { result ≡ have_one_map l first.now second.now }
 {
-    match first_index {
-        Indexed::Map(first_live) => match second_index {
-            Indexed::Map(second_live) => same_map(
-                first,
-                first_heads,
-                first_next,
-                first_live,
-                second,
-                second_heads,
-                second_next,
-                second_live,
-                l,
-            ),
-            Indexed::Nothing(_) => false,
-        },
-        Indexed::Nothing(_) => false,
+    match (first_index, second_index) {
+        (Indexed::Map(first_live), Indexed::Map(second_live)) => same_map(
+            first,
+            first_heads,
+            first_next,
+            first_live,
+            second,
+            second_heads,
+            second_next,
+            second_live,
+            l,
+        ),
+        _ => false,
     }
 }

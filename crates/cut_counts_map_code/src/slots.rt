@@ -17,18 +17,9 @@ fn slot_of(image: &[u8], heads: &[u32], next: &[u32], l: usize, low: u64, high: 
     ensures { HeldIn l image.now (key_with low high) result }
 {
     let n = slot_count(image.len());
-    let found = find_key(image, l, heads, next, n, low, high);
-    match found {
-        Found::At {
-            slot,
-            prev: _,
-            compared: _,
-        } => slot as usize,
-        Found::Missing {
-            prev: _,
-            compared: _,
-        } => 0,
-        Found::BadChain => 0,
+    match find_key(image, l, heads, next, n, low, high) {
+        Found::At { slot, .. } => slot as usize,
+        Found::Missing { .. } | Found::BadChain => 0,
     }
 }
 
@@ -50,11 +41,8 @@ pub fn differ_at(
 {
     let s = slot_of(first, first_heads, first_next, l, low, high);
     let t = slot_of(second, second_heads, second_next, l, low, high);
-    if s == 0 {
-        return t != 0;
-    }
-    if t == 0 {
-        return true;
+    if s == 0 || t == 0 {
+        return t != s;
     }
     values_differ(first, s, second, t, l)
 }

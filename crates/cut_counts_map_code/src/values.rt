@@ -22,12 +22,10 @@ pub fn values_differ(first: &[u8], s: usize, second: &[u8], t: usize, l: usize) 
     if size != slot_length(second, l, t) {
         return true;
     }
-    let mut i = 0;
-    while 8 * i < size {
+    for i in 0..size.div_ceil(8) {
         if value_word(first, l, s, i) != value_word(second, l, t, i) {
             return true;
         }
-        i += 1;
     }
     false
 }

@@ -1,5 +1,5 @@
 // The 81 pairs of counts.
-ghost use Rattle.std.specs.Prelude.{◌≡◌, cond, ◌+◌, ◌<◌, length};
+ghost use Rattle.std.specs.Prelude.{◌≡◌, ◌<◌, length};
 ghost use Rattle.layout.specs.Record.{Layout};
 ghost use Rattle.cut_counts.specs.CutCount.{cut_image};
 ghost use Rattle.cut_counts.specs.inner.Indexed.{IndexedBy};
@@ -9,18 +9,6 @@ use cut_counts::{Indexed, Tally};
 use cut_counts_map_code::maps::{have_one_map, index_image};
 use stores::Stores;
 use stores_code::play::play;
-
-// The bytes of one slice are copied to another of the same length.
-fn copy_bytes(from: &[u8], to: &mut [u8])
-    requires { length to.old ≡ length from.now }
-    ensures { to.new ≡ from.now }
-{
-    let mut k = 0;
-    while k < from.len() {
-        to[k] = from[k];
-        k += 1;
-    }
-}
 
 // The image after the first a stores of the first half and the first b of the second, with its index.
 pub fn cut_copy(
@@ -37,30 +25,20 @@ pub fn cut_copy(
     ensures result { (copy.new ≡ cut_image image.now stores.at stores.value a b)
         × IndexedBy l copy.new heads.new next.new result }
 {
-    copy_bytes(image, copy);
+    copy.copy_from_slice(image);
     play(copy, stores, a, b);
     index_image(copy, l, heads, next)
 }
 
-// One more, if so.
-fn one_more(n: u32, so: bool) -> u32
-    requires { n < 81 }
-    ensures { result ≡ cond so (n + 1) n }
-{
-    if so {
-        return n + 1;
-    }
-    n
-}
-
 // One more pair, which left the earlier map, the later one, both or neither.
+#[tactic(auto, unfolding(cut_counts::specs::inner::Pairs::tallied))]
 fn with_pair(t: Tally, earlier: bool, later: bool) -> Tally
     requires { (t.earlier < 81) × (t.later < 81) }
     ensures { result ≡ tallied t earlier later }
 {
     Tally {
-        earlier: one_more(t.earlier, earlier),
-        later: one_more(t.later, later),
+        earlier: t.earlier + u32::from(earlier),
+        later: t.later + u32::from(later),
     }
 }
 
@@ -90,8 +68,7 @@ pub fn count_pairs(
         earlier: 0,
         later: 0,
     };
-    let mut i = 0;
-    while i < 81 {
+    for i in 0..81 {
         let cut = cut_copy(image, l, stores, i / 9, i % 9, copy, copy_heads, copy_next);
         let x = have_one_map(
             image, heads, next, index, copy, copy_heads, copy_next, cut, l,
@@ -108,7 +85,6 @@ pub fn count_pairs(
             l,
         );
         t = with_pair(t, x, y);
-        i += 1;
     }
     t
 }

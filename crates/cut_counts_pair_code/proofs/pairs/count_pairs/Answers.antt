@@ -1,8 +1,7 @@
 -- Answers of `cut_counts_pair_code::pairs::count_pairs`.
 use mathlib.Core.Path.{refl}
-use Prim.Native.Nat.{◌-◌}
 use native.Mathlib.Omega.{arith}
-use Rattle.cut_counts.proofs.Pairs.{Going, going_first, going_copy, going_fits, going_length, going_low, going_next, going_last}
+use Rattle.cut_counts.proofs.Pairs.{going_first, going_copy, going_fits, going_length, going_low, going_next, going_last}
 use Rattle.cut_counts_pair_code.proofs.pairs.count_pairs.Goals as goal
 
 pub loop-i-init : goal.loop-i-init
@@ -29,14 +28,6 @@ pub with_pair-t-requires : goal.with_pair-t-requires
 with_pair-t-requires c =
     let low = going_low _ _ _ _ _ _ _ _ _ _ _ _ _ c.loop-i.invariant in
     (omega (arith, low.0, c.loop-i-test.true), omega (arith, low.1, c.loop-i-test.true))
-
-pub overflow_add-i : goal.overflow_add-i
-overflow_add-i c =
-    omega (arith, c.loop-i-test.true)
-
-pub loop-i-smaller : goal.loop-i-smaller
-loop-i-smaller c =
-    omega (arith, c.loop-i-test.true)
 
 pub loop-i-preserved : goal.loop-i-preserved
 loop-i-preserved c =
