@@ -387,3 +387,11 @@ module _
         → WriteLookup own l image (index_of heads next s) Replace key size (Refused 21 compared)
     unfolding key_fault refuse_if or_else unless_refused
     replace_looks_absent prev compared e = write_looks_absent own key found ed s Replace prev compared 21 e refl _ refl
+
+-- ---- what a call that takes one slot finds, by its two clauses
+
+pub found_by_fault : (k : ℕ) (r : Lookup) (place : Place) (compared : ℕ) → (k ≡ 0 → r ≡ Accepted place compared) → ((k ≡ 0 → ⊥) → r ≡ Refused k compared)
+    → r ≡ unless_refused k (Accepted place compared) (Refused k compared)
+unfolding unless_refused
+found_by_fault zero r place compared a b = a refl
+found_by_fault (suc k) r place compared a b = b (λ e. omega (arith, e))
