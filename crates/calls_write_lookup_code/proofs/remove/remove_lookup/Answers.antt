@@ -2,7 +2,7 @@
 use borrow.Author.Rules.{rules}
 use Rattle.layout.proofs.Lents.{lent_sized}
 use Rattle.calls.specs.Change.{remove_fault_by}
-use Rattle.calls.proofs.Lookups.{refused_early, lent_walkable, remove_accepted, remove_looks_held, found_by_fault, remove_looks_absent, remove_looks_bad}
+use Rattle.calls.proofs.Lookups.{refused_early, lent_walkable, remove_looks_held, found_by_fault, remove_looks_absent, remove_looks_bad}
 use Rattle.calls_write_lookup_code.proofs.remove.remove_lookup.Goals as goal
 
 pub returns-then-lent-ne0 : goal.returns-then-lent-ne0

@@ -1,7 +1,7 @@
 -- Answers of `calls_write_lookup_code::write::insert_lookup`.
 use borrow.Author.Rules.{rules}
 use Rattle.calls.specs.Change.{write_fault_by}
-use Rattle.calls.proofs.Lookups.{refused_early, write_sized, write_walkable, insert_accepted, insert_looks_held, insert_looks, found_by_fault, write_looks_bad}
+use Rattle.calls.proofs.Lookups.{refused_early, write_sized, write_walkable, insert_looks_held, insert_looks, found_by_fault, write_looks_bad}
 use Rattle.calls_write_lookup_code.proofs.write.insert_lookup.Goals as goal
 
 pub returns-then-lent-ne0 : goal.returns-then-lent-ne0
