@@ -392,9 +392,6 @@ knowing p top exact =
       prevs = p.prevs;
     }
 
-pub known_meetable : (n : ℕ) (p : Progress) (top : ℕ) (exact : Bool) → Meetable n p → Meetable n (knowing p top exact)
-known_meetable n p top exact m = record { low = m.low; high = m.high; some = m.some; few = m.few; chosen_in = m.chosen_in }
-
 -- the version tells as the highest does
 module _ (l : ℕ) (image next : List ℕ) (n : ℕ) (p : Progress) (top : ℕ) (exact : Bool) (known : KnownTop (word image) n top exact)
     (told : Decided image n top p.at) where

@@ -114,33 +114,6 @@ module _ (l : ℕ) (m : ℕ → ℕ) (lay : Layout l) (range : (i : ℕ) → m i
       omega (arith, sym z ∙ ap (λ (x : ℕ). get_or marks (x % 4096) 0) (e ∙ same_low (get_or slots k 0) t o) ∙ w.each k (omega arith))))
       ∙ unmarked slots marks k t low (record { size = w.size; each = λ j h. w.each j (omega arith) }) e z
 
-module _ (m : ℕ → ℕ) (slots : List ℕ) where
-  pub marked_none : (marks : List ℕ) → length marks ≡ 4096 → Marked m slots marks 0
-  marked_none marks e = record { size = e; each = λ j h. absurd (omega arith) }
-
-  pub marked_one : (marks : List ℕ) (k low : ℕ) → Marked m slots marks k → low ≡ line_a m (get_or slots k 0) 1
-      → Marked m slots (set marks (low % 4096) 1) (k + 1)
-  marked_one marks k low w e =
-      record {
-        size =
-            length-set marks (low % 4096) 1 ∙ w.size;
-        each = λ j h. go j (eqb (line_a m (get_or slots j 0) 1 % 4096) (low % 4096)) refl (eqb j k) refl h;
-      }
-    where
-      here : (i : ℕ) → i ≡ low % 4096 → get_or (set marks (low % 4096) 1) i 0 ≡ 1
-      here i q = ap (λ (x : ℕ). get_or (set marks (low % 4096) 1) x 0) q ∙ get_or-set_same marks (low % 4096) 1 0 (omega (arith, w.size))
-
-      go : (j : ℕ) (a : Bool) → eqb (line_a m (get_or slots j 0) 1 % 4096) (low % 4096) ≡ a → (b : Bool) → eqb j k ≡ b → j < k + 1
-          → get_or (set marks (low % 4096) 1) (line_a m (get_or slots j 0) 1 % 4096) 0 ≡ 1
-      go j true q b r h = here (line_a m (get_or slots j 0) 1 % 4096) (eqb-true (line_a m (get_or slots j 0) 1 % 4096) (low % 4096) q)
-      go j false q true r h =
-          absurd
-          (eqb-false (line_a m (get_or slots j 0) 1 % 4096) (low % 4096) q
-          (ap (λ (i : ℕ). line_a m (get_or slots i 0) 1 % 4096) (eqb-true j k r) ∙ ap (λ (x : ℕ). x % 4096) (sym e)))
-      go j false q false r h =
-          let ne = eqb-false (line_a m (get_or slots j 0) 1 % 4096) (low % 4096) q in
-          get_or-set_other marks (low % 4096) (line_a m (get_or slots j 0) 1 % 4096) 1 0 (λ z. ne z) ∙ w.each j (omega (arith, eqb-false j k r))
-
 -- ---- is_left: b tells whether the version v of the slot is above the one that is known
 pub not_above : (strict b : Bool) (known v : ℕ) → b ≡ strict && ltb known v → b ≡ false → strict ≡ true → v ≤ known
 not_above strict b known v e f q = ltb-false known v (sym (ap (λ (x : Bool). x && ltb known v) q) ∙ sym e ∙ f)

@@ -291,13 +291,6 @@ module _
   remove_looks_held own s slot prev compared k e q r h =
       remove_looks own s k (held_later _ n s found slot prev compared k e q) r (h ∙ held_by_fault found slot prev compared k e)
 
-  -- the usual case: a few slots tell that nothing is refused
-  pub remove_accepted : (own : Bool) (s : State) (slot prev compared : ℕ) (b : Bool) → found ≡ At slot prev compared
-      → (b ≡ true → store_fault (allocation_by own l image next n s.first s.newest 1) n s 0 1 ≡ 0) → b ≡ true
-      → RemoveLookup own l image (index_of heads next s) key (Accepted (Held slot prev) compared)
-  unfolding unless_refused
-  remove_accepted own s slot prev compared b e q t = remove_looks_held own s slot prev compared 0 e (sym (q t)) _ refl
-
   pub remove_looks_absent : (own : Bool) (s : State) (prev compared : ℕ) → found ≡ Missing prev compared
       → RemoveLookup own l image (index_of heads next s) key (Accepted (NotHeld prev) compared)
   remove_looks_absent own s prev compared e =
@@ -365,25 +358,21 @@ module _
     unfolding key_fault refuse_if or_else inserts_of
     insert_looks prev compared k e q r h = write_looks_absent own key found ed s Insert prev compared k e q r h
 
-    pub insert_accepted : (prev compared : ℕ) (b : Bool) → found ≡ Missing prev compared
-        → (b ≡ true → store_fault (allocation_by own l image next n s.first s.newest 1) n s 1 0 ≡ 0) → b ≡ true
-        → WriteLookup own l image (index_of heads next s) Insert key size (Accepted (NotHeld prev) compared)
-    unfolding unless_refused
-    insert_accepted prev compared b e q t = insert_looks prev compared 0 e (sym (q t)) _ refl
-
     pub replace_looks : (slot prev compared k : ℕ) → found ≡ At slot prev compared
         → k ≡ store_fault (allocation_by own l image next n s.first s.newest 1) n s 0 0 → (r : Lookup)
         → r ≡ unless_refused k (Accepted (Held slot prev) compared) (Refused k compared) → WriteLookup own l image (index_of heads next s) Replace key size r
     unfolding key_fault refuse_if or_else inserts_of
     replace_looks slot prev compared k e q r h = write_looks_held own key found ed s Replace slot prev compared k e q r h
 
-    pub replace_accepted : (slot prev compared : ℕ) (b : Bool) → found ≡ At slot prev compared
-        → (b ≡ true → store_fault (allocation_by own l image next n s.first s.newest 1) n s 0 0 ≡ 0) → b ≡ true
-        → WriteLookup own l image (index_of heads next s) Replace key size (Accepted (Held slot prev) compared)
-    unfolding unless_refused
-    replace_accepted slot prev compared b e q t = replace_looks slot prev compared 0 e (sym (q t)) _ refl
-
     pub replace_looks_absent : (prev compared : ℕ) → found ≡ Missing prev compared
         → WriteLookup own l image (index_of heads next s) Replace key size (Refused 21 compared)
     unfolding key_fault refuse_if or_else unless_refused
     replace_looks_absent prev compared e = write_looks_absent own key found ed s Replace prev compared 21 e refl _ refl
+
+-- ---- what a call that takes one slot finds, by its two clauses
+
+pub found_by_fault : (k : ℕ) (r : Lookup) (place : Place) (compared : ℕ) → (k ≡ 0 → r ≡ Accepted place compared) → ((k ≡ 0 → ⊥) → r ≡ Refused k compared)
+    → r ≡ unless_refused k (Accepted place compared) (Refused k compared)
+unfolding unless_refused
+found_by_fault zero r place compared a b = a refl
+found_by_fault (suc k) r place compared a b = b (λ e. omega (arith, e))

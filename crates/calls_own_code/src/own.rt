@@ -2,7 +2,8 @@
 // since. They are no calls of document 01, whose refusals hold for any index: these look at the key's chain, at the
 // slots met along the reuse chain up to the one that is taken, and at line A of the newest slot. Of their own index
 // they are the calls for any index; of any other they are as safe, and refuse by these slots. A call
-// whose name ends in 2 is layout 2's, and its key is two words.
+// whose name ends in 2 is layout 2's, and its key is two words. Each is a public name, which C calls too, with its own
+// constants.
 ghost use Rattle.std.specs.Prelude.{◌≡◌, true, length};
 ghost use Rattle.layout.specs.Record.{key_with};
 ghost use Rattle.stores.specs.Store.{zipped};

@@ -1,5 +1,5 @@
 // Insert and replace: a key that is not held, or one that is, gets a value. A call whose name ends in 2 is
-// layout 2's, and its key is two words.
+// layout 2's, and its key is two words. Each of the four is a public name, which C calls too, with its own constants.
 ghost use Rattle.std.specs.Prelude.{◌≡◌, length};
 ghost use Rattle.layout.specs.Record.{key_with};
 ghost use Rattle.stores.specs.Store.{zipped};

@@ -3,9 +3,9 @@ ghost use Rattle.layout.specs.Record.{Layout, key_with};
 ghost use Rattle.index.specs.Index.{index_of};
 ghost use Rattle.calls.specs.inner.Lookup.{RemoveLookup};
 
-use crate::store::{is_accepted, store_fault};
+use crate::store::lookup_at;
 use index::{Found, Lookup, Place, State};
-use index_read_code::search::{find_key, unless_refused};
+use index_read_code::search::find_key;
 use layout_code::header::{check_lent, slot_count};
 use refusals::return_code;
 
@@ -39,14 +39,8 @@ pub fn remove_lookup(
             prev,
             compared,
         } => {
-            if is_accepted(image, l, next, n, state, 0, 1, own) {
-                return Lookup::Accepted {
-                    place: Place::Held { slot, prev },
-                    compared,
-                };
-            }
-            let fault = store_fault(image, l, next, n, state, 0, 1, own);
-            unless_refused(fault, Place::Held { slot, prev }, compared)
+            let place = Place::Held { slot, prev };
+            lookup_at::<0, 1>(image, l, next, n, state, own, place, compared)
         }
         Found::Missing { prev, compared } => Lookup::Accepted {
             place: Place::NotHeld { prev },

@@ -1,11 +1,12 @@
 // The refusals of a call that stores and is not refused for its key.
 ghost use Rattle.std.specs.Prelude.{◌≡◌, true};
+ghost use Rattle.index.specs.declared.Lookup.TheVariants.{Accepted, Refused};
 ghost use Rattle.allocation.specs.Allocation.{allocation_by};
 ghost use Rattle.allocation.specs.inner.Takeable.{Walkable};
 ghost use Rattle.calls.specs.Change.{store_fault};
 
 use allocation_code::take::{full_fault, is_own_open, take_fault_by};
-use index::State;
+use index::{Lookup, Place, State};
 use index_read_code::fault::{ends_fault, live_fault};
 use layout_line_code::line::check_version;
 use refusals::return_code;
@@ -73,4 +74,32 @@ pub fn store_fault(
         return room;
     }
     return_code(check_version(state.version))
+}
+
+// The place of the key where a call that takes one slot is not refused, else its refusal. It is compiled for each pair
+// of counts by itself.
+pub(crate) fn lookup_at<const INSERTS: u32, const REMOVES: u32>(
+    image: &[u8],
+    l: usize,
+    next: &[u32],
+    n: usize,
+    state: State,
+    own: bool,
+    place: Place,
+    compared: u32,
+) -> Lookup
+    requires { Walkable image.now next.now l n }
+    ensures accepted { store_fault (allocation_by own l image.now next.now n state.first state.newest 1) n state INSERTS REMOVES ≡ 0
+        → result ≡ Accepted place compared }
+    ensures refused { (store_fault (allocation_by own l image.now next.now n state.first state.newest 1) n state INSERTS REMOVES ≡ 0 → ⊥)
+        → result ≡ Refused (store_fault (allocation_by own l image.now next.now n state.first state.newest 1) n state INSERTS REMOVES)
+        compared }
+{
+    if is_accepted(image, l, next, n, state, INSERTS, REMOVES, own) {
+        return Lookup::Accepted { place, compared };
+    }
+    match store_fault(image, l, next, n, state, INSERTS, REMOVES, own) {
+        0 => Lookup::Accepted { place, compared },
+        number => Lookup::Refused { number, compared },
+    }
 }

@@ -7,9 +7,9 @@ ghost use Rattle.index.specs.Index.{index_of};
 ghost use Rattle.calls.specs.Change.{write_lent_fault};
 ghost use Rattle.calls.specs.inner.Lookup.{WriteLookup};
 
-use crate::store::{is_accepted, store_fault};
+use crate::store::lookup_at;
 use index::{Found, Lookup, Mode, Place, State};
-use index_read_code::search::{find_key, unless_refused};
+use index_read_code::search::find_key;
 use layout_code::header::{check_lent, slot_count};
 use layout_fields_code::fields::value_limit;
 use refusals::return_code;
@@ -60,14 +60,8 @@ pub fn insert_lookup(
             compared,
         },
         Found::Missing { prev, compared } => {
-            if is_accepted(image, l, next, n, state, 1, 0, own) {
-                return Lookup::Accepted {
-                    place: Place::NotHeld { prev },
-                    compared,
-                };
-            }
-            let fault = store_fault(image, l, next, n, state, 1, 0, own);
-            unless_refused(fault, Place::NotHeld { prev }, compared)
+            let place = Place::NotHeld { prev };
+            lookup_at::<1, 0>(image, l, next, n, state, own, place, compared)
         }
         Found::BadChain => Lookup::Refused {
             number: 11,
@@ -107,14 +101,8 @@ pub fn replace_lookup(
             prev,
             compared,
         } => {
-            if is_accepted(image, l, next, n, state, 0, 0, own) {
-                return Lookup::Accepted {
-                    place: Place::Held { slot, prev },
-                    compared,
-                };
-            }
-            let fault = store_fault(image, l, next, n, state, 0, 0, own);
-            unless_refused(fault, Place::Held { slot, prev }, compared)
+            let place = Place::Held { slot, prev };
+            lookup_at::<0, 0>(image, l, next, n, state, own, place, compared)
         }
         Found::Missing { compared, .. } => Lookup::Refused {
             number: 21,

@@ -16,7 +16,8 @@ use Rattle.allocation_code.proofs.look.is_older_left_in.Goals as goal
 pub any-requires-clause-callable : goal.any-requires-clause-callable
 any-requires-clause-callable c =
     serves_from_places (YieldsList-from_slice (take c.args.got c.args.slots) cc) (λ s q k. search rules)
-    (λ s k h e. let inside : SlotInside c.args.image.now c.args.l s.now = record { layout = c.requires.0.layout; room = chosen_room _ _ _ c.requires.1 k s.now h e } in
+    (λ s k h e.
+    let inside : SlotInside c.args.image.now c.args.l s.now = record { layout = c.requires.0.layout; room = chosen_room _ _ _ c.requires.1 k s.now h e } in
     search (rules, inside))
 
 pub returns : goal.returns

@@ -14,7 +14,8 @@ returns-in_default c =
 
 pub returns-in_default-2 : goal.returns-in_default-2
 returns-in_default-2 c =
-    may_put _ (word c.args.image.now) _ _ _ _ _ c.valid_version.ensures.result (search rules) c.if-top-version.false _ c.slot_kind.ensures.result c.if-slot_kind-ne2.true
+    may_put _ (word c.args.image.now) _ _ _ _ _ c.valid_version.ensures.result (search rules) c.if-top-version.false _ c.slot_kind.ensures.result
+    c.if-slot_kind-ne2.true
 
 pub returns-in_default-3 : goal.returns-in_default-3
 returns-in_default-3 c =
