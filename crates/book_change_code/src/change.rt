@@ -24,11 +24,9 @@ fn outcome_of(outcome: Outcome) -> BookOutcome
 fn by_change(change: Change) -> BookChange
     ensures { (at value heads next : List ℕ) → book_end result at value heads next ≡ as_change (change_end change at value heads next) }
 {
-    let outcome = change.outcome;
-    let state = change.state;
     BookChange {
-        outcome: outcome_of(outcome),
-        state,
+        outcome: outcome_of(change.outcome),
+        state: change.state,
     }
 }
 

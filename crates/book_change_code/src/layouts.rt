@@ -1,5 +1,6 @@
 // The steps in either layout: each reads, and then makes at most one call that writes. With `own` that is a call for the
-// owner of the index.
+// owner of the index. All that they share is `carry_out_plan`: a function that took the plan as a closure would name the
+// same ten arguments again in each step.
 ghost use Rattle.std.specs.Prelude.{◌≡◌};
 ghost use Rattle.interface.specs.Set.{layout_number, key_with, zipped, index_of};
 ghost use Rattle.book.specs.Steps.{book_end, book_buffers_after, new_result_by, acknowledge_result_by, fill_result_by, withdraw_result_by};

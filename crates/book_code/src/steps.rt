@@ -1,4 +1,6 @@
 // The steps: each reads, and then makes at most one call that writes. A step whose name ends in 2 is layout 2's.
+// Each is its plan and `carry_out_plan`, and no call of the step in either layout: its must-fail edits, as
+// acknowledge_other_layout, change what the plan alone reads.
 ghost use Rattle.std.specs.Prelude.{◌≡◌};
 ghost use Rattle.interface.specs.Set.{key_with, zipped, index_of};
 ghost use Rattle.book.specs.Steps.{book_end, book_buffers_after, new_result, acknowledge_result, fill_result, withdraw_result};

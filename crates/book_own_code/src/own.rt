@@ -1,6 +1,7 @@
 // The steps for the owner of an index, that is, of an index from recovery and the accepted calls and steps since: each
 // is the step of its name by a call for the owner. Such calls are no calls of document 01, whose refusals hold for any
-// index. A step whose name ends in 2 is layout 2's.
+// index. A step whose name ends in 2 is layout 2's. Each is its plan and `carry_out_plan`, and no call of the step in
+// either layout: its must-fail edits, as own_acknowledge_words_swapped, change what the plan alone reads.
 ghost use Rattle.std.specs.Prelude.{◌≡◌, true};
 ghost use Rattle.interface.specs.Set.{key_with, zipped, index_of};
 ghost use Rattle.book.specs.Steps.{book_end, book_buffers_after, new_result_by, acknowledge_result_by, fill_result_by, withdraw_result_by};

@@ -23,20 +23,14 @@ pub fn order_bytes(order: Order) -> [u8; 24]
 fn is_state(state: u64) -> bool
     ensures { result ≡ is_state state }
 {
-    if state == 1 {
-        return true;
-    }
-    state == 2
+    state == 1 || state == 2
 }
 
 // The order with these words, or 18 where they are no book record's.
 fn order_with(state: u64, ordered: u64, filled: u64) -> Seek
     ensures { seek_says result ≡ sought_with state ordered filled }
 {
-    if !is_state(state) {
-        return Seek::Missing(18);
-    }
-    if ordered <= filled {
+    if !is_state(state) || ordered <= filled {
         return Seek::Missing(18);
     }
     Seek::Found(Order {

@@ -14,10 +14,7 @@ use orderset::{Got, Located, Mode};
 fn sought_number(number: u32) -> u32
     ensures { result ≡ sought_number number }
 {
-    if number == 23 {
-        return 18;
-    }
-    number
+    if number == 23 { 18 } else { number }
 }
 
 // The order of the key, or a refusal: by a get with this output, of zeros and as long as a value may be.
@@ -34,9 +31,7 @@ fn seek_with(
     ensures order { seek_says result
         ≡ seek (layout_number wide) image.now heads.now next.now (key_with low high) }
 {
-    let answer = get_in_layout(image, wide, heads, next, low, high, out);
-    let got = answer.got;
-    match got {
+    match get_in_layout(image, wide, heads, next, low, high, out).got {
         Got::Length(n) => order_in(out, n),
         Got::Absent => Seek::Missing(18),
         Got::Refused(number) => Seek::Missing(sought_number(number)),
@@ -58,10 +53,7 @@ fn new_located(located: Located, quantity: u64) -> Plan
     ensures { plan_says result ≡ new_course quantity (locate_says located) }
 {
     match located {
-        Located::At {
-            slot: _,
-            version: _,
-        } => Plan::Refused(17),
+        Located::At { .. } => Plan::Refused(17),
         Located::Absent => {
             if quantity == 0 {
                 return Plan::Refused(19);
@@ -93,8 +85,7 @@ pub fn new_plan(
         ≡ new_course quantity (locate_result (layout_number wide) image.now heads.now next.now (key_with low high)).answer }
 {
     let answer = locate_in_layout(image, wide, heads, next, low, high);
-    let located = answer.located;
-    new_located(located, quantity)
+    new_located(answer.located, quantity)
 }
 
 // An acknowledge of an order that was acknowledged before, by what locate answers for its key.
@@ -127,16 +118,11 @@ pub fn acknowledge_plan(
         Seek::Found(order) => {
             if order.state == 2 {
                 let answer = locate_in_layout(image, wide, heads, next, low, high);
-                let located = answer.located;
-                return already_located(located);
+                return already_located(answer.located);
             }
             Plan::Write {
                 mode: Mode::Replace,
-                order: Order {
-                    state: 2,
-                    ordered: order.ordered,
-                    filled: order.filled,
-                },
+                order: Order { state: 2, ..order },
             }
         }
         Seek::Missing(number) => Plan::Refused(number),
@@ -149,10 +135,7 @@ fn fill_order(order: Order, quantity: u64) -> Plan
     ensures { plan_says result ≡ fill_order quantity order }
 {
     let open = order.ordered - order.filled;
-    if quantity == 0 {
-        return Plan::Refused(19);
-    }
-    if open < quantity {
+    if quantity == 0 || open < quantity {
         return Plan::Refused(19);
     }
     if quantity == open {
@@ -161,9 +144,8 @@ fn fill_order(order: Order, quantity: u64) -> Plan
     Plan::Write {
         mode: Mode::Replace,
         order: Order {
-            state: order.state,
-            ordered: order.ordered,
             filled: order.filled + quantity,
+            ..order
         },
     }
 }

@@ -1,5 +1,6 @@
 -- The report block by block, and that the blocks of an input together print its report.
-use Rattle.std.specs.Prelude.{◌≡◌, Bool, true, false, cond, ◌&&◌, Option, Some, None, List, [], ◌++◌, ℕ, ◌+◌, ◌-◌, ◌*◌, ◌/◌, ◌^◌, ◌≤◌, eqb, ltb, leb, length, take, drop}
+use Rattle.std.specs.Prelude.{Option, Some, None}
+use Rattle.std.specs.Prelude.{◌≡◌, Bool, true, false, cond, ◌&&◌, List, [], ◌++◌, ℕ, ◌+◌, ◌-◌, ◌*◌, ◌/◌, ◌^◌, ◌≤◌, eqb, ltb, leb, length, take, drop}
 use Rattle.report_text.specs.Report.{image_size, whole_size, no_totals, report_from, report_of}
 use Rattle.report_text.specs.declared.SlotTotals.{SlotTotals}
 use Rattle.report_text.specs.declared.ReportProgress.{ReportProgress}

@@ -128,7 +128,8 @@ module _ (Inv : World → PlainMap → Type 0) (laws : SetLaws 1 Inv) where
       unfolding after_rounds
       recovers =
           ap (λ (x : List ℕ). recover_step (ok given) n x heads next) struck-image
-          ∙ recover-step (ok given) n (cut_image counts.a counts.b) heads next _ (laws.keeps_always w m i call (cut_by counts.a counts.b) struck_fits [] none_left) struck_size
+          ∙ recover-step (ok given) n (cut_image counts.a counts.b) heads next _
+          (laws.keeps_always w m i call (cut_by counts.a counts.b) struck_fits [] none_left) struck_size
 
     -- the call takes a waiting cut
     taken : (waiting : Waiting) → waits_on waiting (call_result 1 w call).stores ≡ None

@@ -38,6 +38,6 @@ module _ (Inv : World → PlainMap → Type 0) (r : StepResult) (m : PlainMap) (
   pub cut_goes : (a b : ℕ) → fault_at r (Cut a b) ≡ 0 → LineCorrect r m (Cut a b) × Keeps Inv (step_after r (Cut a b)) (map_after r m (Cut a b))
   unfolding slots_for map_by_line line_step waiting_for world_of
   cut_goes a b z =
-      let l = line_leaves r m (Cut a b) n refl z Inv (cut a b) (world_of r) (Some (record { a = a; b = b })) m (record { answer = refl; session = refl; world = refl })
-      same_sizes (few_counts a b (cut_passed r a b z)) k.set refl in
+      let l = line_leaves r m (Cut a b) n refl z Inv (cut a b) (world_of r) (Some (record { a = a; b = b })) m
+      (record { answer = refl; session = refl; world = refl }) same_sizes (few_counts a b (cut_passed r a b z)) k.set refl in
       (cut_line z l.0, l.1)

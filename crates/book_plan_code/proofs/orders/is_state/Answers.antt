@@ -8,7 +8,7 @@ unfolding is_state
 returns-then-state-eq1 c =
     search tests
 
-pub returns : goal.returns
+pub returns-else-state-eq1 : goal.returns-else-state-eq1
 unfolding is_state
-returns c =
+returns-else-state-eq1 c =
     search tests

@@ -10,25 +10,25 @@ use Rattle.book_plan_code.proofs.plans.seek_with.Goals as goal
 
 pub order_in-requires : goal.order_in-requires
 order_in-requires c =
-    room_left _ (layout_numbered c.args.wide) _ c.requires _ c.get_in_layout-answer.auto.out
+    room_left _ (layout_numbered c.args.wide) _ c.requires _ c.get_in_layout.auto.out
 
 pub returns-in-Length : goal.returns-in-Length
 unfolding get_says
 returns-in-Length c =
     record {
-      order = (c.order_in.ensures.result ∙ seek_given _ _ _ _ _ _ c.requires _ c.get_in_layout-answer.ensures.result _
+      order = (c.order_in.ensures.result ∙ seek_given _ _ _ _ _ _ c.requires _ c.get_in_layout.ensures.result _
           (ap get_says c.in-Length.is));
     }
 
 pub returns-in-Absent : goal.returns-in-Absent
 unfolding get_says seek_says sought_in
 returns-in-Absent c =
-    record { order = (seek_given _ _ _ _ _ _ c.requires _ c.get_in_layout-answer.ensures.result _ (ap get_says c.in-Absent.is)) }
+    record { order = (seek_given _ _ _ _ _ _ c.requires _ c.get_in_layout.ensures.result _ (ap get_says c.in-Absent.is)) }
 
 pub returns-in-Refused : goal.returns-in-Refused
 unfolding get_says seek_says sought_in sought_number
 returns-in-Refused c =
     record {
-      order = (ap none_there c.sought_number.ensures ∙ seek_given _ _ _ _ _ _ c.requires _ c.get_in_layout-answer.ensures.result _
+      order = (ap none_there c.sought_number.ensures ∙ seek_given _ _ _ _ _ _ c.requires _ c.get_in_layout.ensures.result _
           (ap get_says c.in-Refused.is));
     }

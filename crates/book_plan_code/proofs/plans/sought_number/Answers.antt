@@ -8,7 +8,7 @@ unfolding sought_number
 returns-then-number-eq23 c =
     search tests
 
-pub returns : goal.returns
+pub returns-else-number-eq23 : goal.returns-else-number-eq23
 unfolding sought_number
-returns c =
+returns-else-number-eq23 c =
     search tests

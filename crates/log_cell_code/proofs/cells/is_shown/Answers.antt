@@ -3,7 +3,8 @@ use native.Mathlib.Nat.{mod-lt}
 use native.Mathlib.Omega.{arith}
 use Rattle.message_log.proofs.CellWords.{shown_zero, shown_high, shown_old, shown_by}
 use Rattle.log_cell_code.proofs.cells.is_shown.Goals as goal
-use Rattle.log_cell_code.proofs.cells.is_shown.Goals.{then-number-eq0-via-then-number-eq0, then-number-eq0-via-else-number-eq0+then-top-number, then-number-eq0-via-else-number-eq0+else-top-number+then-k-top}
+use Rattle.log_cell_code.proofs.cells.is_shown.Goals.{then-number-eq0-via-then-number-eq0, then-number-eq0-via-else-number-eq0+then-top-number}
+use Rattle.log_cell_code.proofs.cells.is_shown.Goals.{then-number-eq0-via-else-number-eq0+else-top-number+then-k-top}
 
 pub returns-then-number-eq0 : goal.returns-then-number-eq0
 returns-then-number-eq0 c =

@@ -2,7 +2,9 @@
 use native.Mathlib.Omega.{arith}
 use Rattle.message_log.proofs.CellWords.{number_open, number_zero, number_elsewhere, number_empty, number_long, number_torn, number_is}
 use Rattle.log_cell_code.proofs.cells.number_in.Goals as goal
-use Rattle.log_cell_code.proofs.cells.number_in.Goals.{then-read_word-stamp-via-then-read_word-stamp, then-read_word-stamp-via-else-read_word-stamp+then-version-eq0, then-read_word-stamp-via-else-read_word-stamp+else-version-eq0+then-version-k}
+use Rattle.log_cell_code.proofs.cells.number_in.Goals.{then-read_word-stamp-via-then-read_word-stamp}
+use Rattle.log_cell_code.proofs.cells.number_in.Goals.{then-read_word-stamp-via-else-read_word-stamp+then-version-eq0}
+use Rattle.log_cell_code.proofs.cells.number_in.Goals.{then-read_word-stamp-via-else-read_word-stamp+else-version-eq0+then-version-k}
 
 pub returns-then-read_word-stamp : goal.returns-then-read_word-stamp
 returns-then-read_word-stamp c =
