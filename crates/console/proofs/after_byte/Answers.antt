@@ -14,24 +14,11 @@ roomy : (p : Progress) (size : ℕ) → p.at + 64 ≤ size → lacks_room p size
 unfolding lacks_room
 roomy p size h = le-ltb size (p.at + 64) h
 
--- a full output has no room
-not_roomy : {A : Type 0} (p : Progress) (size : ℕ) → size < p.at + 64 → lacks_room p size ≡ false → A
-not_roomy p size h e = absurd (true≢false (sym (full p size h) ∙ e))
+pub returns-then-saturating_sub-lt64-clause-progress : goal.returns-then-saturating_sub-lt64-clause-progress
+returns-then-saturating_sub-lt64-clause-progress c = c.flush.ensures.progress ∙ sym (pick_true _ _ _ (full _ _ (omega arith)))
 
-pub returns-then-out-at-clause-progress : goal.returns-then-out-at-clause-progress
-returns-then-out-at-clause-progress c =
-    c.flush.ensures.progress ∙ sym (pick_true _ _ _ (full _ _ (omega (arith, c.if-out-at.true))))
+pub returns-then-saturating_sub-lt64-clause-room : goal.returns-then-saturating_sub-lt64-clause-room
+returns-then-saturating_sub-lt64-clause-room c = λ e. absurd (true≢false (sym (full _ _ (omega arith)) ∙ e))
 
-pub returns-then-out-at-clause-room : goal.returns-then-out-at-clause-room
-returns-then-out-at-clause-room c = not_roomy _ _ (omega (arith, c.if-out-at.true))
-
-pub returns-then-out-at-lt64-clause-progress : goal.returns-then-out-at-lt64-clause-progress
-returns-then-out-at-lt64-clause-progress c =
-    c.flush-then-out-at-lt64.ensures.progress
-    ∙ sym (pick_true _ _ _ (full _ _ (omega (arith, c.if-out-at.false, c.if-out-at-lt64.true))))
-
-pub returns-then-out-at-lt64-clause-room : goal.returns-then-out-at-lt64-clause-room
-returns-then-out-at-lt64-clause-room c = not_roomy _ _ (omega (arith, c.if-out-at.false, c.if-out-at-lt64.true))
-
-pub returns-clause-progress : goal.returns-clause-progress
-returns-clause-progress c = sym (pick_false _ _ _ (roomy _ _ (omega (arith, c.if-out-at.false, c.if-out-at-lt64.false))))
+pub returns-else-saturating_sub-lt64-clause-progress : goal.returns-else-saturating_sub-lt64-clause-progress
+returns-else-saturating_sub-lt64-clause-progress c = sym (pick_false _ _ _ (roomy _ _ (omega arith)))

@@ -1,5 +1,6 @@
 -- `plug::trace_bytes`: one byte more, and none left.
 use Rattle.std.proofs.Common.{◌≡◌, ℕ, List, ◌∙◌, ap₂}
+use Rattle.std.proofs.lemmas.Result.{on_ok_weaker}
 use Rattle.session.specs.Stream.{StreamResult, byte_result}
 use Rattle.session.specs.declared.Progress.{Progress}
 use Rattle.session.proofs.Readings.{read_more, read_done}
@@ -12,11 +13,13 @@ by_lengths : (copy later copy' later' : ℕ) (s : Progress) (byte : ℕ) (image 
 by_lengths copy later copy' later' s byte image heads next out r c d e =
     e ∙ ap₂ (λ (x y : ℕ). byte_result (trace_result x y) s byte image heads next out) c d
 
-pub loop-i-preserved : goal.loop-i-preserved
-loop-i-preserved g c =
-    read_more _ _ _ _ _ _ _ _ _ _ _ _ _ _ _ c.loop-i.invariant c.loop-i-test.true
-    (by_lengths _ _ _ _ _ _ _ _ _ _ _ c.loop-i.auto.copy c.loop-i.auto.later c.trace_byte-q.ensures.stream) c.after_byte-u.ensures.progress
+pub loop-byte-preserved : goal.loop-byte-preserved
+loop-byte-preserved g c =
+    read_more _ _ _ _ _ _ _ _ _ _ _ _ _ _ _ c.loop-byte.invariant c.loop-byte-test.true
+    (by_lengths _ _ _ _ _ _ _ _ _ _ _ c.loop-byte.auto.copy c.loop-byte.auto.later c.trace_byte.ensures.stream) c.after_byte.ensures.progress
 
-pub returns-clause-stream : goal.returns-clause-stream
-returns-clause-stream g c =
-    λ e. read_done _ _ _ _ _ _ _ _ _ _ c.loop-i.invariant c.loop-i-test.false c.flush-done.ensures.progress
+pub returns : goal.returns
+returns g c = record {
+  stream =
+      on_ok_weaker _ (λ _. read_done _ _ _ _ _ _ _ _ _ _ c.loop-byte.invariant c.loop-byte-test.false c.flush.ensures.progress) c.flush.ensures.inside;
+}
