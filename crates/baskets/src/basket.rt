@@ -5,41 +5,42 @@ use crate::set::Set;
 use orderset::{BasketOutcome, basket};
 use std::io::Stdout;
 
-// Of a basket with its answer the stores, sixteen for each key, are handed out and no item is left.
-pub fn run_basket(set: &mut Set, stdout: Stdout) {
-    let lent = set.lent;
-    let named = set.basket;
-    let heads = &mut set.heads[..];
-    let next = &mut set.next[..];
-    let at = &mut set.handed.at[..];
-    let value = &mut set.handed.value[..];
-    let answer = basket(
-        &set.image[..lent.image],
-        &mut heads[..lent.heads],
-        &mut next[..lent.next],
-        set.state,
-        named.count,
-        named.items,
-        named.values,
-        &mut at[..lent.at],
-        &mut value[..lent.value],
-    );
-    set.state = answer.state;
-    set.handed.lines = Lines::EightStores;
-    match answer.outcome {
-        BasketOutcome::Stored { version } => {
-            let keys = named.count.min(8);
-            show::text(stdout, b" ok");
-            show::number(stdout, version);
-            show::numbers(stdout, &answer.slots[..keys]);
-            set.handed.count = 16 * keys;
-            set.basket = Named::default();
+impl Set {
+    // Of a basket with its answer the stores, sixteen for each key, are handed out and no item is left.
+    pub fn run_basket(&mut self, stdout: Stdout) {
+        let lent = self.lent;
+        let named = self.basket;
+        let heads = &mut self.heads[..];
+        let next = &mut self.next[..];
+        let at = &mut self.handed.at[..];
+        let value = &mut self.handed.value[..];
+        let answer = basket(
+            &self.image[..lent.image],
+            &mut heads[..lent.heads],
+            &mut next[..lent.next],
+            self.state,
+            named.count,
+            named.items,
+            named.values,
+            &mut at[..lent.at],
+            &mut value[..lent.value],
+        );
+        self.state = answer.state;
+        self.handed.lines = Lines::EightStores;
+        match answer.outcome {
+            BasketOutcome::Stored { version } => {
+                let keys = named.count.min(8);
+                let _ = print!(stdout; " ok {version}");
+                show::numbers(stdout, &answer.slots[..keys]);
+                self.handed.count = 16 * keys;
+                self.basket = Named::default();
+            }
+            BasketOutcome::Refused(number) => {
+                show::refused(stdout, number);
+                self.handed.count = 0;
+            }
         }
-        BasketOutcome::Refused(number) => {
-            show::refused(stdout, number);
-            set.handed.count = 0;
-        }
+        show::state(stdout, self.state);
+        self.show_lent_index(stdout);
     }
-    show::state(stdout, set.state);
-    set.show_lent_index(stdout);
 }

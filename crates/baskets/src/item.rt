@@ -1,4 +1,5 @@
 // The items of the basket to come, and values.
+use crate::line::KeyLine;
 use orderset::{Action, BasketItem, Mode};
 
 // The items of a basket, with their values from byte 80 * i on; of more than eight only the count is kept.
@@ -36,20 +37,20 @@ pub fn fill_rising(value: &mut [u8], byte: u64) {
 }
 
 impl Named {
-    pub fn add_item(&mut self, action: Action, [_, low, length, byte, high]: [u64; 5]) {
+    pub fn add_item(&mut self, line: KeyLine) {
         if 8 < self.count {
             return;
         }
         if self.count < 8 {
             self.items[self.count] = BasketItem {
-                action,
-                low,
-                high,
-                length: length as usize,
+                action: line.action,
+                low: line.low,
+                high: line.high,
+                length: line.length as usize,
             };
             let start = 80 * self.count;
             let values = &mut self.values[..];
-            fill_rising(&mut values[start..start + 80], byte);
+            fill_rising(&mut values[start..start + 80], line.byte);
         }
         self.count += 1;
     }

@@ -8,53 +8,45 @@ mod basket;
 mod handed;
 mod image;
 mod item;
-mod names;
+mod line;
 mod set;
 mod setup;
 mod single;
 
-use basket::run_basket;
-use image::{format_set, recover_set, show_image_word};
-use names::{Name, basket_name};
+use line::{Call, set_call, set_part};
 use set::Set;
-use setup::set_up_baskets;
 use show::input::read_full;
-use show::lines::{is_asked, parse_numbers};
-use single::{run_single, show_get};
+use show::lines::is_asked;
 use std::io::Stdout;
 
-// A line that ends in a colon.
-fn run_basket_call(set: &mut Set, stdout: Stdout, name: Name, numbers: [u64; 5]) {
-    let [_, first, second, _, _] = numbers;
-    match name {
-        Name::Format => format_set(set, stdout, first, second),
-        Name::Recover => recover_set(set, stdout),
-        Name::Basket => run_basket(set, stdout),
-        Name::Play => {
+fn run_basket_call(set: &mut Set, stdout: Stdout, call: Call) {
+    match call {
+        Call::Single(line) => set.run_single(stdout, line),
+        Call::Basket => set.run_basket(stdout),
+        Call::Format { slots, heads } => set.format_set(stdout, slots, heads),
+        Call::Recover => set.recover_set(stdout),
+        Call::Get { key } => set.show_get(stdout, key),
+        Call::Stores { count } => set.handed.show_front(stdout, count as usize),
+        Call::Word { place } => set.show_image_word(stdout, place),
+        Call::Play => {
             let handed = set.handed;
             set.play_stores_of(stdout, &handed);
         }
-        Name::Cut => {
-            let left = set.handed.standing(first);
+        Call::Cut { counts } => {
+            let left = set.handed.standing(counts);
             set.play_stores_of(stdout, &left);
         }
-        Name::Get => show_get(set, stdout, first),
-        Name::Stores => set.handed.show_front(stdout, first as usize),
-        Name::Word => show_image_word(set, stdout, first),
-        Name::Change(action) => run_single(set, stdout, action, numbers),
-        _ => {}
     }
 }
 
 fn run_basket_line(set: &mut Set, stdout: Stdout, line: &[u8]) {
     show::text(stdout, line);
-    if let Some(name) = basket_name(line) {
-        let numbers = parse_numbers(line);
-        if is_asked(line) {
-            run_basket_call(set, stdout, name, numbers);
-        } else {
-            set_up_baskets(set, name, numbers);
+    if is_asked(line) {
+        if let Some(call) = set_call(line) {
+            run_basket_call(set, stdout, call);
         }
+    } else if let Some(part) = set_part(line) {
+        set.set_up_part(part);
     }
     show::text(stdout, b"\n");
 }

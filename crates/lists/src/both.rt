@@ -22,8 +22,7 @@ impl<F: Form> Side<F> {
         match answer.outcome {
             BasketOutcome::Stored { version } => {
                 let keys = named.count % 4;
-                show::text(stdout, b" ok");
-                show::number(stdout, version);
+                let _ = print!(stdout; " ok {version}");
                 show::numbers(stdout, &answer.slots[..keys]);
                 16 * keys
             }
@@ -32,6 +31,17 @@ impl<F: Form> Side<F> {
                 0
             }
         }
+    }
+
+    // The same of a call of the log.
+    fn show_log_append(&mut self, stdout: Stdout, message: &[u8]) -> usize {
+        let answer = self.handed.append_to(self.image.lent_bytes(), message);
+        show_log_form(stdout, answer)
+    }
+
+    fn show_log_recovery(&mut self, stdout: Stdout) -> usize {
+        let answer = self.handed.recover_from(self.image.lent_bytes());
+        show_log_form(stdout, answer)
     }
 
     fn show_play(&mut self, stdout: Stdout, count: usize) {
@@ -46,9 +56,7 @@ impl<F: Form> Side<F> {
 fn show_log_form(stdout: Stdout, answer: Result<LogStored, Refusal>) -> usize {
     match answer {
         Ok(LogStored { number, count }) => {
-            show::text(stdout, b" ok");
-            show::number(stdout, number);
-            show::number(stdout, count as u64);
+            let _ = print!(stdout; " ok {number} {count}");
             count
         }
         Err(refusal) => {
@@ -124,18 +132,18 @@ impl Both {
 
     // In how many first entries the lists are equal.
     fn show_equal(&self, stdout: Stdout) {
-        show::text(stdout, b" equal");
-        show::number(stdout, self.first_other() as u64);
+        let equal = self.first_other();
+        let _ = print!(stdout; " equal {equal}");
     }
 
     // One entry of the lists: word number and value of each form.
     pub fn show_entry(&self, stdout: Stdout, place: u64) {
         if place < 48 {
-            let store = self.second.handed.stores[place as usize];
-            show::number(stdout, u64::from(self.first.handed.at[place as usize]));
-            show::number(stdout, self.first.handed.value[place as usize]);
-            show::number(stdout, u64::from(store.word));
-            show::number(stdout, store.value);
+            let place = place as usize;
+            let word = self.first.handed.at[place];
+            let value = self.first.handed.value[place];
+            let store = self.second.handed.stores[place];
+            let _ = print!(stdout; " {word} {value} {} {}", store.word, store.value);
         }
     }
 
@@ -152,31 +160,15 @@ impl Both {
     // A message of so many bytes: both answers, and in how many first entries the lists are equal.
     pub fn append_both(&mut self, stdout: Stdout, length: u64, byte: u64) {
         let message = [(byte % 256) as u8; 400];
-        let message = &message[..((length % 401) as usize)];
-        let first = self
-            .first
-            .handed
-            .append_to(self.first.image.lent_bytes(), message);
-        let second = self
-            .second
-            .handed
-            .append_to(self.second.image.lent_bytes(), message);
-        self.count = show_log_form(stdout, first);
-        show_log_form(stdout, second);
+        let message = &message[..(length % 401) as usize];
+        self.count = self.first.show_log_append(stdout, message);
+        self.second.show_log_append(stdout, message);
         self.show_equal(stdout);
     }
 
     pub fn recover_both(&mut self, stdout: Stdout) {
-        let first = self
-            .first
-            .handed
-            .recover_from(self.first.image.lent_bytes());
-        let second = self
-            .second
-            .handed
-            .recover_from(self.second.image.lent_bytes());
-        self.count = show_log_form(stdout, first);
-        show_log_form(stdout, second);
+        self.count = self.first.show_log_recovery(stdout);
+        self.second.show_log_recovery(stdout);
         self.show_equal(stdout);
     }
 
@@ -193,7 +185,6 @@ impl Both {
         self.first.show_play(stdout, self.count);
         self.second.show_play(stdout, self.count);
         let equal = self.first.image.equal_front(&self.second.image);
-        show::text(stdout, b" equal");
-        show::number(stdout, equal as u64);
+        let _ = print!(stdout; " equal {equal}");
     }
 }

@@ -1,5 +1,6 @@
 // The calls in their two forms: with two slices of numbers, and with a list of stores.
 use crate::image::Image;
+use crate::line::KeyLine;
 use lists_code::lent::StoreList;
 use log_code::{append, recover_log};
 use message_log::LogStored;
@@ -31,19 +32,19 @@ impl Default for Named {
 }
 
 impl Named {
-    pub fn name_item(&mut self, action: Action, [_, low, length, byte, high]: [u64; 5]) {
+    pub fn name_item(&mut self, line: KeyLine) {
         if 8 < self.count {
             return;
         }
         if self.count < 8 {
             self.items[self.count] = BasketItem {
-                action,
-                low,
-                high,
-                length: length as usize,
+                action: line.action,
+                low: line.low,
+                high: line.high,
+                length: line.length as usize,
             };
         }
-        self.byte = (byte % 256) as u8;
+        self.byte = (line.byte % 256) as u8;
         self.count += 1;
     }
 }

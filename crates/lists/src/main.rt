@@ -8,33 +8,31 @@
 mod both;
 mod form;
 mod image;
-mod names;
+mod line;
 
 use both::Both;
-use names::{Name, list_name};
+use line::{Call, list_call};
 use show::input::read_full;
-use show::lines::parse_numbers;
 use std::io::Stdout;
 
-fn run_list_call(both: &mut Both, stdout: Stdout, name: Name, numbers: [u64; 5]) {
-    let [_, first, second, _, _] = numbers;
-    match name {
-        Name::Format => both.format_both(stdout, first, second),
-        Name::Area => both.make_area(first),
-        Name::Change(action) => both.basket.name_item(action, numbers),
-        Name::Basket => both.run_both_baskets(stdout),
-        Name::Append => both.append_both(stdout, first, second),
-        Name::Recover => both.recover_both(stdout),
-        Name::Keep => both.keep_stores(first),
-        Name::Play => both.play_both(stdout),
-        Name::Entry => both.show_entry(stdout, first),
+fn run_list_call(both: &mut Both, stdout: Stdout, call: Call) {
+    match call {
+        Call::Format { slots, layout } => both.format_both(stdout, slots, layout),
+        Call::Area { cells } => both.make_area(cells),
+        Call::Item(line) => both.basket.name_item(line),
+        Call::Basket => both.run_both_baskets(stdout),
+        Call::Append { length, byte } => both.append_both(stdout, length, byte),
+        Call::Recover => both.recover_both(stdout),
+        Call::Keep { count } => both.keep_stores(count),
+        Call::Play => both.play_both(stdout),
+        Call::Entry { place } => both.show_entry(stdout, place),
     }
 }
 
 fn run_list_line(both: &mut Both, stdout: Stdout, line: &[u8]) {
     show::text(stdout, line);
-    if let Some(name) = list_name(line) {
-        run_list_call(both, stdout, name, parse_numbers(line));
+    if let Some(call) = list_call(line) {
+        run_list_call(both, stdout, call);
     }
     show::text(stdout, b"\n");
 }

@@ -35,9 +35,7 @@ impl Log {
         );
         self.count = match answer {
             Ok(LogStored { number, count }) => {
-                show::text(stdout, b" ok");
-                show::number(stdout, number);
-                show::number(stdout, count as u64);
+                let _ = print!(stdout; " ok {number} {count}");
                 count
             }
             Err(refusal) => {
@@ -49,7 +47,7 @@ impl Log {
 
     pub fn append_message(&mut self, stdout: Stdout, length: u64, byte: u64, step: u64) {
         let message = message_of(byte, step);
-        let message = &message[..((length % 401) as usize).min(400)];
+        let message = &message[..(length % 401) as usize];
         self.hand_out(stdout, |area, at, value| append(area, message, at, value));
     }
 
@@ -62,7 +60,7 @@ impl Log {
         step: u64,
     ) {
         let message = message_of(byte, step);
-        let message = &message[..((length % 401) as usize).min(400)];
+        let message = &message[..(length % 401) as usize];
         self.hand_out(
             stdout,
             |area, at, value| append_after(area, last, message, at, value),
@@ -81,8 +79,8 @@ impl Log {
                 &[]
             }
         };
-        show::text(stdout, b" length");
-        show::number(stdout, part.len() as u64);
+        let length = part.len();
+        let _ = print!(stdout; " length {length}");
         show_ends(stdout, part);
     }
 

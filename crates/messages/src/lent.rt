@@ -47,10 +47,10 @@ impl Log {
     }
 
     // So many bytes from this place on are set to one.
-    pub fn fill_area(&mut self, place: u64, count: u64, byte: u8) {
+    pub fn fill_area(&mut self, place: u64, count: u64, byte: u64) {
         let bytes = self.area.iter_mut().skip(place as usize);
         for b in bytes.take(count as usize) {
-            *b = byte;
+            *b = (byte % 256) as u8;
         }
     }
 }

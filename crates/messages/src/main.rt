@@ -6,51 +6,52 @@
 mod actions;
 mod cut;
 mod lent;
-mod names;
+mod line;
 
 use lent::Log;
-use names::{Name, message_name};
+use line::{Call, Part, log_part, message_call};
 use show::input::read_full;
-use show::lines::{is_asked, parse_numbers};
+use show::lines::is_asked;
 use std::io::Stdout;
 
-// A line that ends in a colon.
-fn run_message_call(log: &mut Log, stdout: Stdout, name: Name, numbers: [u64; 5]) {
-    let [_, first, second, third, fourth] = numbers;
-    match name {
-        Name::Append => log.append_message(stdout, first, second, third),
-        Name::After => log.append_message_after(stdout, first, second, third, fourth),
-        Name::Recover => log.recover_area(stdout),
-        Name::Play => log.play_log(stdout),
-        Name::Cut(group) => {
-            log.cut_stores(group, first);
+fn run_message_call(log: &mut Log, stdout: Stdout, call: Call) {
+    match call {
+        Call::Append { length, byte, step } => {
+            log.append_message(stdout, length, byte, step);
+        }
+        Call::After {
+            last,
+            length,
+            byte,
+            step,
+        } => log.append_message_after(stdout, last, length, byte, step),
+        Call::Recover => log.recover_area(stdout),
+        Call::Play => log.play_log(stdout),
+        Call::Cut { group, counts } => {
+            log.cut_stores(group, counts);
             log.play_log(stdout);
         }
-        Name::Read => log.show_part(stdout, first),
-        Name::Stores => log.show_log_stores(stdout, first),
-        Name::Word => log.show_area_word(stdout, first),
-        Name::Lend | Name::Fill => {}
+        Call::Read { number } => log.show_part(stdout, number),
+        Call::Stores { count } => log.show_log_stores(stdout, count),
+        Call::Word { place } => log.show_area_word(stdout, place),
     }
 }
 
-// A line that sets a part of the log; another changes nothing.
-fn set_up_log(log: &mut Log, name: Name, [_, first, second, third, _]: [u64; 5]) {
-    match name {
-        Name::Fill => log.fill_area(first, second, (third % 256) as u8),
-        Name::Lend => log.lend_fronts(first, second, third),
-        _ => {}
+fn set_log_part(log: &mut Log, part: Part) {
+    match part {
+        Part::Lend { area, at, value } => log.lend_fronts(area, at, value),
+        Part::Fill { place, count, byte } => log.fill_area(place, count, byte),
     }
 }
 
 fn run_message_line(log: &mut Log, stdout: Stdout, line: &[u8]) {
     show::text(stdout, line);
-    if let Some(name) = message_name(line) {
-        let numbers = parse_numbers(line);
-        if is_asked(line) {
-            run_message_call(log, stdout, name, numbers);
-        } else {
-            set_up_log(log, name, numbers);
+    if is_asked(line) {
+        if let Some(call) = message_call(line) {
+            run_message_call(log, stdout, call);
         }
+    } else if let Some(part) = log_part(line) {
+        set_log_part(log, part);
     }
     show::text(stdout, b"\n");
 }
