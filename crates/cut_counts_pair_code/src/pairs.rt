@@ -26,7 +26,7 @@ pub fn cut_copy(
         × IndexedBy l copy.new heads.new next.new result }
 {
     copy.copy_from_slice(image);
-    play(copy, stores, a, b);
+    let _ = play(copy, stores, a, b);
     index_image(copy, l, heads, next)
 }
 

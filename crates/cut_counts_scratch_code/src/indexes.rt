@@ -1,6 +1,7 @@
 // The cuts are counted with three indexes: of the image, of the image with all stores played and of each cut.
 ghost use Rattle.std.specs.Prelude.{◌≡◌, length};
 ghost use Rattle.layout.specs.Record.{Layout};
+ghost use Rattle.refusals.specs.Number.{fault_in};
 ghost use Rattle.cut_counts.specs.CutCount.{arguments_fault, cut_image, cut_count_end, cut_count_result};
 ghost use Rattle.cut_counts.specs.inner.Indexed.{IndexedBy};
 ghost use Rattle.cut_counts.specs.inner.Pairs.{FitsIndex, tally_of};
@@ -8,25 +9,24 @@ ghost use Rattle.cut_counts.specs.inner.Pairs.{FitsIndex, tally_of};
 use cut_counts::{CutCounts, Indexed, Tally};
 use cut_counts_map_code::maps::index_image;
 use cut_counts_pair_code::pairs::{count_pairs, cut_copy};
+use refusals::Refusal;
 use stores::Stores;
-use stores_code::fault::play_fault;
+use stores_code::fault::check_play;
 
-// 15 by the stores, or 1 by the length of a lent slice, else 0.
-fn arguments_fault(len: usize, stores: Stores, copy: usize, later: usize) -> u32
-    ensures { result ≡ arguments_fault len stores.at copy later }
+// 1, 14 or 15 by the stores, or 1 by the length of a lent slice.
+fn check_arguments(
+    len: usize,
+    stores: Stores,
+    copy: usize,
+    later: usize,
+) -> Result<(), Refusal>
+    ensures { fault_in result ≡ arguments_fault len stores.at copy later }
 {
-    let at = stores.at;
-    let fault = play_fault(len, &at, 8, 8);
-    if fault != 0 {
-        return fault;
+    check_play(len, &stores.at, 8, 8)?;
+    if copy != len || later != len {
+        return Err(Refusal::BadImageLength);
     }
-    if copy != len {
-        return 1;
-    }
-    if later != len {
-        return 1;
-    }
-    0
+    Ok(())
 }
 
 // The tally for an image with its index.
@@ -92,9 +92,8 @@ pub fn count_with_indexes(
     match index {
         Indexed::Nothing(number) => CutCounts::Refused(number),
         Indexed::Map(_) => {
-            let fault = arguments_fault(image.len(), stores, copy.len(), later.len());
-            if fault != 0 {
-                return CutCounts::Refused(fault);
+            if let Err(refusal) = check_arguments(image.len(), stores, copy.len(), later.len()) {
+                return CutCounts::Refused(refusal.code());
             }
             let t = tally(
                 image,
