@@ -129,15 +129,6 @@ pub word_of_part : (bs s : List ℕ) (i n : ℕ) → n ≡ 8 → bs ≡ take n (
 word_of_part bs s i n e part =
     word_of_bytes bs s i (λ j h. ap (λ (x : List ℕ). get_or x j 0) part ∙ get_or-take n (drop (8 * i) s) j 0 (omega arith) ∙ get_or-drop (8 * i) s j 0)
 
--- and of those from its start to the end of s, with zeros after them
-pub word_of_end : (bs s : List ℕ) (i n : ℕ) → n ≡ length s - 8 * i → 8 * i ≤ length s →
-    ((j : ℕ) → j < n → get_or bs j 0 ≡ get_or s (8 * i + j) 0) → ((j : ℕ) → n ≤ j → get_or bs j 0 ≡ 0) → from_le_bytes w64 bs ≡ word s i
-word_of_end bs s i n e inside front back =
-    word_of_bytes bs s i (λ j h.
-    by_cases (dec_lt j n)
-    (λ p. front j p)
-    (λ p. back j (omega arith) ∙ sym (get_or-eq_default s 0 {n = 8 * i + j} (omega arith))))
-
 -- word i of n bytes: a whole word, or the bytes that are left
 pub bytes_whole : (s : List ℕ) (i n v : ℕ) → i < n / 8 → set_word s i v ≡ set_bytes s (8 * i) (min 8 (n - 8 * i)) v
 unfolding set_word

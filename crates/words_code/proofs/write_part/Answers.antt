@@ -12,4 +12,8 @@ returns-then-i-n c =
 
 pub returns : goal.returns
 returns c =
-    record { result = bytes_copied c.args.image.now (8 * c.args.i) (c.args.n - 8 * c.args.i) c.args.v _ _ (omega arith) (omega arith) (omega arith) (c.copy_from_slice.ensures.after ∙ ap (take (c.args.n - 8 * c.args.i)) c.to_le_bytes.ensures) ∙ bytes_left _ _ _ _ c.if-i-n.false }
+    record {
+      result = (bytes_copied c.args.image.now (8 * c.args.i) (c.args.n - 8 * c.args.i) c.args.v _ _ (omega arith) (omega arith) (omega arith)
+          (c.copy_from_slice.ensures.after ∙ ap (take (c.args.n - 8 * c.args.i)) c.to_le_bytes.ensures)
+          ∙ bytes_left _ _ _ _ c.if-i-n.false);
+    }

@@ -9,4 +9,7 @@ use Rattle.words_code.proofs.write_word.Goals as goal
 pub returns : goal.returns
 unfolding set_word
 returns c =
-    record { result = bytes_copied c.args.image.now (8 * c.args.i) 8 c.args.v _ _ (omega arith) c.requires (omega arith) (c.copy_from_slice.ensures.after ∙ c.to_le_bytes.ensures) }
+    record {
+      result = bytes_copied c.args.image.now (8 * c.args.i) 8 c.args.v _ _ (omega arith) c.requires (omega arith)
+          (c.copy_from_slice.ensures.after ∙ c.to_le_bytes.ensures);
+    }

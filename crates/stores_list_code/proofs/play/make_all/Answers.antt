@@ -11,6 +11,7 @@ pub loop-store-preserved : goal.loop-store-preserved
 loop-store-preserved c = (
   omega arith,
   c.write_word.ensures.result
-      ∙ ap (λ (m : List ℕ). set_word m (get_or c.args.list.now c.loop-store.store-index none).word (get_or c.args.list.now c.loop-store.store-index none).value) c.loop-store.invariant.1
+      ∙ ap (λ (m : List ℕ). set_word m (get_or c.args.list.now c.loop-store.store-index none).word
+      (get_or c.args.list.now c.loop-store.store-index none).value) c.loop-store.invariant.1
       ∙ play_next c.args.list.now c.args.image.now c.loop-store.store-index (omega arith),
 )
