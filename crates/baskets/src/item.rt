@@ -2,7 +2,8 @@
 use crate::line::KeyLine;
 use orderset::{Action, BasketItem, Mode};
 
-// The items of a basket, with their values from byte 80 * i on; of more than eight only the count is kept.
+// The items of a basket, with their values from byte 80 * i on; of more than eight only the count is kept. `basket`
+// takes a count, eight items and 640 bytes.
 #[derive(Clone, Copy)]
 pub struct Named {
     pub count: usize,

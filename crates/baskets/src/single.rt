@@ -57,6 +57,8 @@ impl Set {
             &mut value,
         );
         show::got(stdout, answer.got);
+
+        // Four calls: a loop over the four places is no plainer, and needs that each is below ten.
         show::number(stdout, read_word(&value, 0));
         show::number(stdout, read_word(&value, 3));
         show::number(stdout, read_word(&value, 4));

@@ -61,7 +61,7 @@ pub trait Form {
     fn play_first(&self, image: &mut [u8], count: usize) -> Result<(), Refusal>;
 }
 
-// Word numbers and values of stores.
+// Word numbers and values of stores: two lists, as the calls fill them.
 #[derive(Clone, Copy)]
 pub struct Numbers {
     pub at: [u32; 48],

@@ -11,6 +11,7 @@ pub struct Fronts {
     ghost within: { (area ≤ 1344) × (at ≤ 60) × (value ≤ 60) },
 }
 
+// The calls fill two slices, so the stores are two lists with one count.
 #[derive(Drop)]
 pub struct Log {
     pub area: [u8; 1344],
