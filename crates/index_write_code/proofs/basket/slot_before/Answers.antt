@@ -4,11 +4,8 @@ use Prim.Native.Nat.{◌+◌, ◌-◌, ◌<◌}
 use native.Mathlib.Omega.{arith}
 use Rattle.index.proofs.BasketWrites.{seek_found, seek_ended, seek_above, seek_on, seek_over}
 use Rattle.index_write_code.proofs.basket.slot_before.Goals as goal
-use Rattle.index_write_code.proofs.basket.slot_before.Goals.{
-  then-at-target-via-then-at-target,
-  then-at-target-via-else-at-target+then-at-eq0,
-  then-at-target-via-else-at-target+else-at-eq0+then-n-at,
-}
+use Rattle.index_write_code.proofs.basket.slot_before.Goals.{then-at-target-via-then-at-target, then-at-target-via-else-at-target+then-at-eq0}
+use Rattle.index_write_code.proofs.basket.slot_before.Goals.{then-at-target-via-else-at-target+else-at-eq0+then-n-at}
 
 pub returns-then-at-target : goal.returns-then-at-target
 returns-then-at-target c =
