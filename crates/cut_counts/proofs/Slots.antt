@@ -122,9 +122,6 @@ pub record Passed (l : ℕ) (a b : List ℕ) (s : ℕ) : Type 0 where
   pub last_slot : s ≤ slots_in a + 1
   pub agree : (t : ℕ) → 1 ≤ t → t < s → apart_at l a b (slot_key l a t) ≡ false
 
-pub none_passed : (l : ℕ) (a b : List ℕ) → Passed l a b 1
-none_passed l a b = record { some_slot = omega arith; last_slot = omega arith; agree = λ t x y. absurd (omega arith) }
-
 module _ (l : ℕ) (a b : List ℕ) (s low high : ℕ) (lay : Layout l) (p : low ≡ line_a (word a) s 1) (q : high ≡ high_word l (line_a (word a) s))
     (r : Bool) (e : r ≡ apart_at l a b (key_with low high)) where
   at_key : r ≡ apart_at l a b (slot_key l a s)

@@ -48,9 +48,6 @@ module _ (l : ℕ) (A B C D : ℕ → ℕ) where
   abbrev pub SameWords : ℕ → Type 0
   SameWords i = (j : ℕ) → j < i → value_word l A B j ≡ value_word l C D j
 
-  pub same_more : (i a b : ℕ) → SameWords i → a ≡ value_word l A B i → b ≡ value_word l C D i → a ≡ b → SameWords (i + 1)
-  same_more i a b h p q e j s = by_cases (dec_lt j i) (h j) (λ n. let at : j ≡ i = omega arith in rw at (sym p ∙ e ∙ q))
-
   front_same : (size i : ℕ) → size ≤ 8 * i → SameWords i → value_front l A B size ≡ value_front l C D size
   unfolding value_front value_byte
   front_same size i p h =

@@ -39,16 +39,6 @@ pub record Leaving (slots prevs : List ℕ) (count : ℕ) (next₀ : List ℕ) (
       ≡ all_taken_of (index_of heads next₀ s₀) (takens_from slots prevs 0 count)
 
 module _ (slots prevs : List ℕ) (count : ℕ) (next₀ : List ℕ) (s₀ : State) where
-  pub leaving_starts : Leaving slots prevs count next₀ s₀ next₀ s₀ 0
-  leaving_starts =
-      record {
-        position = omega arith;
-        size = refl;
-        rest =
-            λ heads.
-            let d : count - 0 ≡ count = omega arith in ap (λ (k : ℕ). all_taken_of (index_of heads next₀ s₀) (takens_from slots prevs 0 k)) d;
-      }
-
   module _ (next : List ℕ) (s : State) (j : ℕ) (w : Leaving slots prevs count next₀ s₀ next s j) where
     one_left : (heads : List ℕ) → j < count
         → all_taken_of (index_of heads next s) (takens_from slots prevs j (count - j))
@@ -132,9 +122,6 @@ module _ (next : List ℕ) (n target first prev at left : ℕ) (w : Seeking next
   pub seek_over : left ≤ 0 → prev ≡ slot_before next n n target 0 first
   unfolding slot_before
   seek_over h = let z : left ≡ 0 = omega arith in sym (ap (λ (k : ℕ). slot_before next n k target prev at) z) ∙ w.rest
-
-pub seek_starts : (next : List ℕ) (n target first : ℕ) → first < 2 ^ 32 → Seeking next n target first 0 first n
-seek_starts next n target first h = record { place = h; rest = refl }
 
 -- it lies inside the index
 pub before_within : (next : List ℕ) (n target first r : ℕ) → r ≡ slot_before next n n target 0 first → length next ≡ n + 1 → r < length next

@@ -78,8 +78,3 @@ module _
             p ∙ ap (λ (i : Index). push i (chain_from (get_or places x 0)) x) g.done
             ∙ sym (ap (build (place_in places) (unbuilt heads₀ next₀)) d);
       }
-
-  pub going_ends : left ≤ 0 → index_of heads next s ≡ build (place_in places) (unbuilt heads₀ next₀) order
-  going_ends h =
-      let e : left ≡ 0 = omega arith in
-      g.done ∙ ap (λ (k : ℕ). build (place_in places) (unbuilt heads₀ next₀) (drop k order)) e

@@ -9,9 +9,3 @@ use Rattle.layout.specs.Layouts.{layout_number}
 pub layout_numbered : (wide : Bool) → Layout (layout_number wide)
 layout_numbered true = record { low = omega arith; high = omega arith }
 layout_numbered false = record { low = omega arith; high = omega arith }
-
-pub number_wide : (wide : Bool) → wide ≡ true → 2 ≡ layout_number wide
-number_wide wide e = sym (pick_true wide 2 1 e)
-
-pub number_narrow : (wide : Bool) → wide ≡ false → 1 ≡ layout_number wide
-number_narrow wide e = sym (pick_false wide 2 1 e)

@@ -12,15 +12,8 @@ use Rattle.prelude.specs.Refusal.{refuse_if}
 use Rattle.prelude.proofs.Choice.{pick_true, pick_false}
 use Rattle.prelude.proofs.Refusals.{refuse_if-true, refuse_if-false, refuse_if_zero, or_else_first, or_else_later}
 
--- the low word of the key, and the kind word
-pub low_at : (m : ℕ → ℕ) (s : ℕ) → m (16 * s + 1) ≡ line_a m s 1
-low_at m s = ap m (omega arith)
-
 pub second_at : (m : ℕ → ℕ) (s : ℕ) → m (16 * s + 2) ≡ line_a m s 2
 second_at m s = ap m (omega arith)
-
-pub kind_at : (m : ℕ → ℕ) (l s : ℕ) → l ≤ 2 → m (16 * s + l + 1) ≡ line_a m s (l + 1)
-kind_at m l s h = ap m (omega arith)
 
 -- ---- word_fault: b says whether the bits above the length byte are a fault, k whether the kind is, most is the greatest length of that kind
 

@@ -12,19 +12,6 @@ use Rattle.prelude.specs.Refusal.{refuse_if}
 use Rattle.layout.specs.Size.{slots_of}
 use Rattle.prelude.proofs.Refusals.{refuse_if-true, refuse_if-false}
 
--- slot_count: the length turned by seven bits
-pub turned_fits : (len : ℕ) → len < 2 ^ 64 → len / 128 + len % 128 * 2 ^ 57 < 2 ^ 64
-turned_fits len h = sum (len / 128) (len % 128 * 2 ^ 57) (high len h) (mul-le-mul_right (2 ^ 57) (low len))
-  where
-    low : (len : ℕ) → len % 128 ≤ 127
-    low len = omega arith
-
-    high : (len : ℕ) → len < 2 ^ 64 → len / 128 < 2 ^ 57
-    high len h = omega arith
-
-    sum : (q r : ℕ) → q < 2 ^ 57 → r ≤ 127 * 2 ^ 57 → q + r < 2 ^ 64
-    sum q r p s = omega arith
-
 module _ (len turned : ℕ) (e : turned ≡ len / 128 + len % 128 * 2 ^ 57) where
   pub turned_low : turned < 3 → 0 ≡ slots_of len
   unfolding slots_of

@@ -219,34 +219,6 @@ rebuild_top l m n b order places found j z = (j.arranged z).top_fits
 
 -- ---- the fronts of the scratch lists
 
--- no layout has more high words than slots and entry 0
-pub highs_few : (l n : ℕ) → Layout l → (l - 1) * (n + 1) ≤ n + 1
-highs_few l n lay = omega (arith, mul-le-mul_right (n + 1) few)
-  where
-    few : l - 1 ≤ 1
-    few = omega (arith, lay.high)
-
-pub judgeable : (l : ℕ) (image heads next ranks lows highs places order by_key spare : List ℕ) (n : ℕ) → Ready image l heads next n
-    → Roomy ranks lows highs places order by_key spare n
-    → Judgeable image l (take (n + 1) ranks) (take (n + 1) lows) (take ((l - 1) * (n + 1)) highs) (take (n + 1) places) (take n order) (take n by_key)
-    (take n spare) n (length heads)
-judgeable l image heads next ranks lows highs places order by_key spare n ready room =
-    record {
-      layout = ready.layout;
-      image-size = ready.sized.image-size;
-      ranks_size = length-take-le (n + 1) ranks (omega arith);
-      lows_size = length-take-le (n + 1) lows (omega arith);
-      highs_size = length-take-le ((l - 1) * (n + 1)) highs (omega (arith, highs_few l n ready.layout, room.highs_room));
-      places_size = length-take-le (n + 1) places (omega arith);
-      order_size = length-take-le n order (omega arith);
-      by_key_size = length-take-le n by_key (omega arith);
-      scratch_size = length-take-le n spare (omega arith);
-      some_slots = ready.some_slots;
-      few = ready.sized.few;
-      heads_low = ready.sized.some_head;
-      heads_high = ready.heads_high;
-    }
-
 -- what is lent and not refused with 1 to 4
 pub lent_ready : (l : ℕ) (image heads next : List ℕ) (fault n : ℕ) → Layout l → fault ≡ lent_fault l image (length heads) (length next)
     → fault ≡ 0 → n ≡ slots_in image → Ready image l heads next n

@@ -42,12 +42,6 @@ use Rattle.recovery.proofs.Orders.{no_highs}
 
 -- ---- a record's chain
 
-pub remove_place : (kind key b : ℕ) → kind ≡ 2 → 0 ≡ cond (eqb kind 2) 0 (head_of key b + 1)
-remove_place kind key b e = sym (pick_true (eqb kind 2) 0 (head_of key b + 1) (eq-eqb kind 2 e))
-
-pub put-place : (kind key b r : ℕ) → (kind ≡ 2 → ⊥) → r ≡ head_of key b → r + 1 ≡ cond (eqb kind 2) 0 (head_of key b + 1)
-put-place kind key b r h e = ap (λ (k : ℕ). k + 1) e ∙ sym (pick_false (eqb kind 2) 0 (head_of key b + 1) (ne_eqb kind 2 h))
-
 -- ---- what is kept of one slot
 
 abbrev kept : (version : ℕ) → (mark : Bool) → (low high place fault : ℕ) → Summary
@@ -163,13 +157,6 @@ version_small image s version verdict bytes e v =
     omega (arith, low, word_range image (8 * (2 * s) + 7 % 8) bytes)
 
 -- ---- slot by slot
-
--- r is p || q
-pub or_left : (p q r : Bool) → p ≡ true → r ≡ p → r ≡ cond p true q
-or_left p q r e f = f ∙ e ∙ sym (pick_true p true q e)
-
-pub or_right : (p q r : Bool) → p ≡ false → r ≡ q → r ≡ cond p true q
-or_right p q r e f = f ∙ sym (pick_false p true q e)
 
 -- a list with entry k + 1 set has its first k entries from before and the entry set
 entries_next : (g : ℕ → ℕ) (xs : List ℕ) (k x : ℕ) → suc k < length xs → x ≡ g (suc k) → ((s : ℕ) → 0 < s → s ≤ k → get_or xs s 0 ≡ g s)

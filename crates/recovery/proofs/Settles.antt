@@ -34,9 +34,6 @@ pub record Judging (num : SizeFields) (ranks order : List ℕ) (n i : ℕ) : Typ
   pub position : i ≤ n
   pub rest : judged_rank num ranks order i ≡ judged_rank num ranks order n
 
-pub judging_start : (num : SizeFields) (ranks order : List ℕ) (n : ℕ) → Judging num ranks order n n
-judging_start num ranks order n = record { position = omega arith; rest = refl }
-
 module _ (num : SizeFields) (ranks order : List ℕ) (n i j : ℕ) (g : Judging num ranks order n i) (at : j ≡ i - 1) (some : 0 < i) where
   one_turn : judged_rank num ranks order n
       ≡ cond (ltb (entry_at ranks order j) 2) 2 (cond (full_run num ranks order j) (entry_at ranks order j) (judged_rank num ranks order j))
@@ -74,90 +71,6 @@ pub record Clearing (limit n : ℕ) (ranks₀ places₀ ranks places : List ℕ)
   pub place_at : (t : ℕ) → 0 < t → t < s → get_or places t 0 ≡ cond (ltb limit (get_or ranks₀ t 0)) 0 (get_or places₀ t 0)
   pub ranks_left : (t : ℕ) → s ≤ t → get_or ranks t 0 ≡ get_or ranks₀ t 0
   pub places_left : (t : ℕ) → s ≤ t → get_or places t 0 ≡ get_or places₀ t 0
-
-pub clearing_start : (limit n : ℕ) (ranks places : List ℕ) → Clearing limit n ranks places ranks places 1
-clearing_start limit n ranks places =
-    record {
-      low = omega arith;
-      high = omega arith;
-      ranks_size = refl;
-      places_size = refl;
-      rank_at = λ t p q. absurd (omega arith);
-      place_at = λ t p q. absurd (omega arith);
-      ranks_left = λ t p. refl;
-      places_left = λ t p. refl;
-    }
-
--- a list with entry s set, where the entries below s are as wanted
-set-next : (list : List ℕ) (s v : ℕ) (want : ℕ → ℕ) → s < length list → v ≡ want s → ((t : ℕ) → 0 < t → t < s → get_or list t 0 ≡ want t)
-    → (t : ℕ) → 0 < t → t < s + 1 → get_or (set list s v) t 0 ≡ want t
-set-next list s v want h e w t p q =
-    by_cases (ℕ_discrete t s) (λ x. ap (λ (k : ℕ). get_or (set list s v) k 0) x ∙ get_or-set_same list s v 0 h ∙ e ∙ ap want (sym x))
-    (λ x. get_or-set_other list s t v 0 x ∙ w t p (omega arith))
-
-module _ (limit n : ℕ) (ranks₀ places₀ ranks places : List ℕ) (s : ℕ) (g : Clearing limit n ranks₀ places₀ ranks places s) (h : s ≤ n)
-    (wide : length ranks₀ ≡ n + 1) (wide-places : length places₀ ≡ n + 1) (a : ℕ) (here : a ≡ get_or ranks s 0) where
-  pub clearing_void : (ranks' places' : List ℕ) → limit < a → ranks' ≡ set ranks s 0 → places' ≡ set places s 0
-      → Clearing limit n ranks₀ places₀ ranks' places' (s + 1)
-  clearing_void ranks' places' v d e = rw (d, e) next
-    where
-      above : ltb limit (get_or ranks₀ s 0) ≡ true
-      above = lt-ltb limit (get_or ranks₀ s 0) (omega (arith, here, g.ranks_left s (omega arith)))
-
-      next : Clearing limit n ranks₀ places₀ (set ranks s 0) (set places s 0) (s + 1)
-      next =
-          record {
-            low = omega arith;
-            high = omega arith;
-            ranks_size = length-set ranks s 0 ∙ g.ranks_size;
-            places_size = length-set places s 0 ∙ g.places_size;
-            rank_at =
-                set-next ranks s 0 (λ t. cond (ltb limit (get_or ranks₀ t 0)) 0 (get_or ranks₀ t 0)) (omega (arith, g.ranks_size))
-                (sym (pick_true (ltb limit (get_or ranks₀ s 0)) 0 _ above)) g.rank_at;
-            place_at =
-                set-next places s 0 (λ t. cond (ltb limit (get_or ranks₀ t 0)) 0 (get_or places₀ t 0)) (omega (arith, g.places_size))
-                (sym (pick_true (ltb limit (get_or ranks₀ s 0)) 0 _ above)) g.place_at;
-            ranks_left = λ t p. get_or-set_other ranks s t 0 0 (λ x. omega arith) ∙ g.ranks_left t (omega arith);
-            places_left = λ t p. get_or-set_other places s t 0 0 (λ x. omega arith) ∙ g.places_left t (omega arith);
-          }
-
-  pub clearing_kept : (ranks' places' : List ℕ) → a ≤ limit → ranks' ≡ ranks → places' ≡ places → Clearing limit n ranks₀ places₀ ranks' places' (s + 1)
-  clearing_kept ranks' places' v d e = rw (d, e) next
-    where
-      below : ltb limit (get_or ranks₀ s 0) ≡ false
-      below = le-ltb limit (get_or ranks₀ s 0) (omega (arith, here, g.ranks_left s (omega arith)))
-
-      either : (list : List ℕ) (want : ℕ → ℕ) → get_or list s 0 ≡ want s → ((t : ℕ) → 0 < t → t < s → get_or list t 0 ≡ want t)
-          → (t : ℕ) → 0 < t → t < s + 1 → get_or list t 0 ≡ want t
-      either list want x w t p q =
-          by_cases (ℕ_discrete t s) (λ y. ap (λ (k : ℕ). get_or list k 0) y ∙ x ∙ ap want (sym y)) (λ y. w t p (omega arith))
-
-      next : Clearing limit n ranks₀ places₀ ranks places (s + 1)
-      next =
-          record {
-            low = omega arith;
-            high = omega arith;
-            ranks_size = g.ranks_size;
-            places_size = g.places_size;
-            rank_at =
-                either ranks (λ t. cond (ltb limit (get_or ranks₀ t 0)) 0 (get_or ranks₀ t 0))
-                (g.ranks_left s (omega arith) ∙ sym (pick_false (ltb limit (get_or ranks₀ s 0)) 0 _ below)) g.rank_at;
-            place_at =
-                either places (λ t. cond (ltb limit (get_or ranks₀ t 0)) 0 (get_or places₀ t 0))
-                (g.places_left s (omega arith) ∙ sym (pick_false (ltb limit (get_or ranks₀ s 0)) 0 _ below)) g.place_at;
-            ranks_left = λ t p. g.ranks_left t (omega arith);
-            places_left = λ t p. g.places_left t (omega arith);
-          }
-
-pub clearing_end : (limit n : ℕ) (ranks₀ places₀ ranks places : List ℕ) (s : ℕ) → Clearing limit n ranks₀ places₀ ranks places s → n < s
-    → Cleared limit n ranks₀ places₀ ranks places
-clearing_end limit n ranks₀ places₀ ranks places s g h =
-    record {
-      ranks_size = g.ranks_size;
-      places_size = g.places_size;
-      rank_at = λ t p q. g.rank_at t p (omega arith);
-      place_at = λ t p q. g.place_at t p (omega arith);
-    }
 
 -- ---- one store more, past the eighth
 
@@ -208,15 +121,3 @@ module _ (n : ℕ) (image ranks lows highs places order by_key spare : List ℕ)
       where
         below : (s : ℕ) → Slot n s → ltb limit (get_or ranks s 0) ≡ false
         below s i = le-ltb limit (get_or ranks s 0) (none_above (omega (arith, e)) s i)
-
-    -- the orders are made again
-    pub settled_again : (ranks' places' order' by-key' : List ℕ) (o : Invalidations)
-        → o ≡ invalidations_of (invalidating_stores m (filter (λ s. ltb limit (get_or ranks s 0)) (slot_numbers n)))
-        → Cleared limit n ranks places ranks' places' → order' ≡ sorted (λ x. get_or ranks' x 0) (slot_numbers (length order))
-        → by-key' ≡ sorted (key_at lows highs) order' → Settled m limit n ranks lows highs places ranks' places' order' by-key' o
-    settled_again ranks' places' order' by-key' o d c e k =
-        record {
-          cleared = c;
-          in_order = record { by_rank = e ∙ ap (λ (x : ℕ). sorted (λ y. get_or ranks' y 0) (slot_numbers x)) all_slots.size; keyed = k };
-          opened_is = d;
-        }

@@ -27,18 +27,6 @@ pub record Making (at value image₀ image : List ℕ) (from count k : ℕ) : Ty
   pub size : length image ≡ length image₀
   pub rest : played (take (from + count - k) (drop k (zipped at value))) image ≡ played (take count (drop from (zipped at value))) image₀
 
-pub making_start : (at value image : List ℕ) (from count : ℕ) → Making at value image image from count from
-making_start at value image from count =
-    record {
-      low = omega arith;
-      high = omega arith;
-      size = refl;
-      rest = ap (λ (n : ℕ). played (take n (drop from (zipped at value))) image) all;
-    }
-  where
-    all : from + count - from ≡ count
-    all = omega arith
-
 next_played : (at value image : List ℕ) (n k : ℕ) → 0 < n → k < length at → k < length value
     → played (take n (drop k (zipped at value))) image ≡
     played (take (n - 1) (drop (suc k) (zipped at value))) (set_word image (get_or at k 0) (get_or value k 0))

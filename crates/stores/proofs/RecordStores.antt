@@ -15,20 +15,10 @@ use Rattle.stores.specs.Written.{new_a, new_b, body_a, body_b, run, line_stores,
 use Rattle.stores.specs.inner.Written.{record_numbers, record_words}
 use Rattle.stores.proofs.Placed.{placed_empty}
 
-high_part : (low high : ℕ) → low < 2 ^ 64 → (key_with low high) / 2 ^ 64 ≡ high
-high_part low high h = omega arith
-
 -- the two words of a key
 pub key_low : (low high i : ℕ) → low < 2 ^ 64 → i ≡ 0 → low ≡ key_word (key_with low high) i
 key_low low high i h e =
     sym (ap (key_word (key_with low high)) e ∙ ap (λ (x : ℕ). x % 2 ^ 64) (div-one (key_with low high)) ∙ omega arith)
-
-pub key_high : (low high i : ℕ) → low < 2 ^ 64 → high < 2 ^ 64 → i < 2 → (i ≡ 0 → ⊥) → high ≡ key_word (key_with low high) i
-key_high low high i h k b ne =
-    sym (ap (key_word (key_with low high)) one ∙ ap (λ (x : ℕ). x % 2 ^ 64) (high_part low high h) ∙ mod-eq_of_lt k)
-  where
-    one : i ≡ 1
-    one = omega arith
 
 -- a record without a value, whose kind word is w: the key, the kind word, and zeros
 module _ (l key w i : ℕ) where
