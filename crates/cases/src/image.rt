@@ -5,12 +5,7 @@ use std::io::Stdout;
 use words_code::read_word;
 
 // A play's answer, and how many bytes of the two images differ.
-fn show_played(
-    stdout: Stdout,
-    answer: Result<(), Refusal>,
-    before: &[u8; 640],
-    image: &[u8; 640],
-) {
+fn show_played(stdout: Stdout, answer: Result<(), Refusal>, before: &[u8; 640], image: &[u8; 640]) {
     let answer = return_code(answer);
     let changed = before.iter().zip(image).filter(|(a, b)| a != b).count();
     let _ = print!(stdout; " {answer} changed {changed}");

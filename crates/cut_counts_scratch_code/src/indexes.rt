@@ -14,12 +14,7 @@ use stores::Stores;
 use stores_code::fault::check_play;
 
 // 1, 14 or 15 by the stores, or 1 by the length of a lent slice.
-fn check_arguments(
-    len: usize,
-    stores: Stores,
-    copy: usize,
-    later: usize,
-) -> Result<(), Refusal>
+fn check_arguments(len: usize, stores: Stores, copy: usize, later: usize) -> Result<(), Refusal>
     ensures { fault_in result ≡ arguments_fault len stores.at copy later }
 {
     check_play(len, &stores.at, 8, 8)?;

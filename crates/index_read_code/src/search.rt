@@ -11,6 +11,9 @@ use crate::head::head_of;
 use index::{Found, Lookup, Place};
 use layout_fields_code::fields::has_key;
 
+// The link of the last slot of a chain: no slot.
+const END: u32 = 0;
+
 // Follows the chain of the key's head, up to the first slot with that key or the end.
 pub fn find_key(
     image: &[u8],
@@ -29,7 +32,7 @@ pub fn find_key(
     let mut prev: u32 = 0;
     let mut compared: u32 = 0;
     for _ in 0..n {
-        if at == 0 {
+        if at == END {
             return Found::Missing { prev, compared };
         }
         let slot = at as usize;

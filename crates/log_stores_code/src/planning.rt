@@ -39,7 +39,7 @@ fn payload_plan(area: &[u8], c: usize, message: &[u8]) -> Payload
 }
 
 // The number above this one; or the refusal 9, where it is not below 2^63.
-fn next_number(last: u64) -> Result<u64, Refusal>
+fn number_after(last: u64) -> Result<u64, Refusal>
     ensures fault { fault_in result ≡ version_fault (suc last) }
     ensures next { IfOk result (λ number. number ≡ suc last) }
 {
@@ -62,7 +62,7 @@ pub fn append_after_plan(
 {
     let k = check_area(area)?;
     check_message(message.len())?;
-    let number = next_number(last)?;
+    let number = number_after(last)?;
     let cell = (number % (k as u64)) as usize;
     let payload = payload_plan(area, cell, message);
     let count = 8 + payload.count;

@@ -21,7 +21,7 @@ use Rattle.stores.proofs.Lists.{numbers-length, values_length, numbers_append, v
 use Rattle.std.specs.Prelude.{Result, Ok, Err}
 use Rattle.std.specs.Result.{IsErrAnd}
 use Rattle.refusals.specs.declared.Refusal.{Refusal}
-use Rattle.refusals.specs.Number.{number_of}
+use Rattle.refusals.specs.Number.{code_of}
 use Rattle.message_log.specs.declared.LogStored.{LogStored}
 use Rattle.message_log.specs.LogOutcome.{log_answer, log_end, handing}
 use Rattle.message_log.specs.Append.{marked_body}
@@ -82,7 +82,7 @@ module _ (base : ℕ) (words : ℕ → ℕ) (count from : ℕ) (at₀ value₀ :
 -- ---- the result
 
 -- a refusal that a `?` hands on
-pub answer_handed : (e : Refusal) (r : Result LogStored Refusal) → IsErrAnd r (λ y. y ≡ e) → log_answer r ≡ refused (number_of e)
+pub answer_handed : (e : Refusal) (r : Result LogStored Refusal) → IsErrAnd r (λ y. y ≡ e) → log_answer r ≡ refused (code_of e)
 unfolding log_answer
 answer_handed e (Ok stored) h = absurd h
 answer_handed e (Err refusal) h = rw h refl

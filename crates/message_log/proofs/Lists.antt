@@ -80,7 +80,8 @@ made size room (suc k) number ss few fits a at₀ value₀ at₁ value₁ rest r
     none : stored ≡ 0
     none = es ∙ says_count a ∙ ap (λ (r : LogResult). count_given r.answer) e
 
-module _ (area : List ℕ) (room : ℕ) (a : Result LogStored Refusal) (at₀ value₀ at₁ value₁ : List ℕ) (stored : ℕ) (rest rest' : List ℕ) (es : stored ≡ stored_count a) where
+module _ (area : List ℕ) (room : ℕ) (a : Result LogStored Refusal) (at₀ value₀ at₁ value₁ : List ℕ) (stored : ℕ) (rest rest' : List ℕ)
+    (es : stored ≡ stored_count a) where
   -- ---- an append
 
   module _ (message : List ℕ) where

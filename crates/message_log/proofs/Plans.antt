@@ -374,11 +374,13 @@ module _ (area message : List ℕ) (ats vals k : ℕ) (e : k ≡ cells_in area) 
   pub plan_done : (fault : ℕ) → fault ≡ short_fault (8 + stores) ats vals
       → (fault ≡ append_fault area message ats vals) × (fault ≡ 0 → AppendReady area message ats vals (top + 1) cell pairs (8 + stores))
   plan_done fault r =
-      let done = plan_done_after area top message ats vals k e some unfit u fit over (v ∙ ap version_fault (add-one top)) fits cell p pairs stores g fault r in (
+      let done =
+      plan_done_after area top message ats vals k e some unfit u fit over (v ∙ ap version_fault (add-one top)) fits cell p pairs stores g fault r in (
         fault_by area message ats vals k e top f fault done.0,
         (λ z.
             ready_highest area message ats vals (top + 1) cell pairs (8 + stores)
-            (subst (λ (n : ℕ). AppendAfterReady area n message ats vals (top + 1) cell pairs (8 + stores)) (top_is area message ats vals k e top f) (done.1 z))),
+            (subst (λ (n : ℕ). AppendAfterReady area n message ats vals (top + 1) cell pairs (8 + stores))
+            (top_is area message ats vals k e top f) (done.1 z))),
       )
 
 module _ (area message : List ℕ) where

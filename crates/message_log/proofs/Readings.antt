@@ -11,7 +11,7 @@ use borrow.Author.Tests.{not-false}
 use Rattle.std.specs.Prelude.{Result, Ok, Err}
 use Rattle.std.specs.Result.{IsErrAnd}
 use Rattle.refusals.specs.declared.Refusal.{Refusal}
-use Rattle.refusals.specs.Number.{number_of}
+use Rattle.refusals.specs.Number.{code_of}
 use Rattle.refusals.proofs.Numbers.{not_zero}
 use Rattle.message_log.specs.declared.Part.{Part}
 use Rattle.prelude.specs.Refusal.{refuse_if}
@@ -60,16 +60,16 @@ module _ (area : List ℕ) (number : ℕ) where
     find_refused = ap refused u ∙ sym (refused_keeps _ (refused (read_fault area number)) (read_fault area number) (λ z. ne (u ∙ z)))
 
   -- a refusal that a `?` hands on
-  module _ (e : Refusal) (u : number_of e ≡ read_fault area number) where
+  module _ (e : Refusal) (u : code_of e ≡ read_fault area number) where
     pub read_handed : {A : Type 0} (bytes : A → List ℕ) (r : Result A Refusal) → IsErrAnd r (λ y. y ≡ e) → read_says bytes r ≡ read_result area number
     unfolding read_says
     read_handed bytes (Ok part) h = absurd h
-    read_handed bytes (Err refusal) h = ap (λ (y : Refusal). read_end [] (number_of y)) h ∙ part_refused (number_of e) u (not_zero e)
+    read_handed bytes (Err refusal) h = ap (λ (y : Refusal). read_end [] (code_of y)) h ∙ part_refused (code_of e) u (not_zero e)
 
     pub find_handed : (r : Result Part Refusal) → IsErrAnd r (λ y. y ≡ e) → part_says r ≡ part_result area number
     unfolding part_says
     find_handed (Ok part) h = absurd h
-    find_handed (Err refusal) h = ap (λ (y : Refusal). refused (number_of y)) h ∙ find_refused (number_of e) u (not_zero e)
+    find_handed (Err refusal) h = ap (λ (y : Refusal). refused (code_of y)) h ∙ find_refused (code_of e) u (not_zero e)
 
   module _ (accepted : 0 ≡ read_fault area number) where
     fine : area_fault area ≡ 0

@@ -6,14 +6,14 @@ use Rattle.prelude.specs.Answer.{Answer, gives, refused}
 use Rattle.stores.specs.Store.{Store}
 use Rattle.stores.specs.Play.{word_numbers, values}
 use Rattle.refusals.specs.declared.Refusal.{Refusal}
-use Rattle.refusals.specs.Number.{number_of}
+use Rattle.refusals.specs.Number.{code_of}
 use Rattle.message_log.specs.declared.LogStored.{LogStored}
 
 -- "An append answers its number and its count of stores, recovery the highest complete number, 0 if none, and its
 -- count"
 unfoldable pub log_answer : Result LogStored Refusal → Answer
 log_answer (Ok stored) = gives (stored.number ∷ stored.count ∷ [])
-log_answer (Err refusal) = refused (number_of refusal)
+log_answer (Err refusal) = refused (code_of refusal)
 
 -- "13 for a list shorter than the stores": of this many stores, in lists of these lengths
 unfoldable pub short_fault : (count ats vals : ℕ) → ℕ

@@ -7,7 +7,7 @@ use Rattle.words.specs.Word.{word}
 use Rattle.message_log.specs.Area.{cells_in, area_fault, marked_line}
 use Rattle.message_log.specs.Message.{shown, message_start, message_in}
 use Rattle.refusals.specs.declared.Refusal.{Refusal}
-use Rattle.refusals.specs.Number.{number_of}
+use Rattle.refusals.specs.Number.{code_of}
 use Rattle.message_log.specs.declared.Part.{Part}
 
 -- 30, then "31 when a number read is not shown"
@@ -30,7 +30,7 @@ read_end part refusal = record { part = part; refusal = refusal }
 -- what a read answers: a part, or the refusal. The part's bytes are got by `bytes`
 unfoldable pub read_says : {A : Type 0} → (bytes : A → List ℕ) → Result A Refusal → ReadResult
 read_says bytes (Ok part) = read_end (bytes part) 0
-read_says bytes (Err refusal) = read_end [] (number_of refusal)
+read_says bytes (Err refusal) = read_end [] (code_of refusal)
 
 unfoldable pub read_result : (area : List ℕ) → (number : ℕ) → ReadResult
 read_result area number = read_end (read_part area number) (read_fault area number)
@@ -40,7 +40,7 @@ read_result area number = read_end (read_part area number) (read_fault area numb
 -- at which byte of the area the part starts and how many bytes it has, or the refusal
 unfoldable pub part_says : Result Part Refusal → Answer
 part_says (Ok part) = gives (part.start ∷ part.size ∷ [])
-part_says (Err refusal) = refused (number_of refusal)
+part_says (Err refusal) = refused (code_of refusal)
 
 unfoldable pub part_result : (area : List ℕ) → (number : ℕ) → Answer
 part_result area number =

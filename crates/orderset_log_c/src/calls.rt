@@ -26,7 +26,7 @@ pub extern "C" fn orderset_proved_log_append(
             *answer = [number, count as u64];
             0
         }
-        Err(refusal) => refusal.number(),
+        Err(refusal) => refusal.code(),
     }
 }
 
@@ -48,7 +48,7 @@ pub extern "C" fn orderset_proved_log_append_after(
             *answer = [stored.number, stored.count as u64];
             0
         }
-        Err(refusal) => refusal.number(),
+        Err(refusal) => refusal.code(),
     }
 }
 
@@ -68,7 +68,7 @@ pub extern "C" fn orderset_proved_log_recover(
             *answer = [top, count as u64];
             0
         }
-        Err(fault) => fault.number(),
+        Err(fault) => fault.code(),
     }
 }
 
@@ -82,6 +82,6 @@ pub extern "C" fn orderset_proved_log_read(area: &[u8], number: u64, answer: &mu
             *answer = [start as u64, size as u64];
             0
         }
-        Err(refusal) => refusal.number(),
+        Err(refusal) => refusal.code(),
     }
 }

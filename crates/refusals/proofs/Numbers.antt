@@ -4,7 +4,13 @@ use Rattle.std.specs.Result.{IsErrAnd, is_err}
 use Rattle.std.proofs.Common.{arith, refl}
 use mathlib.Core.Bool.{true≢false}
 use Rattle.refusals.specs.declared.Refusal.{Refusal}
-use Rattle.refusals.specs.declared.Refusal.TheVariants.{BadImageLength, NotFormatted, BadHeader, BadIndexLength, BadMark, BadKindBits, VersionShared, NoSpareSlot, Exhausted, ValueTooLong, IndexMismatch, BufferTooShort, CountTooHigh, BadStores, BadLine, NewKeyExists, NoOrder, BadQuantity, KeyExists, KeyMissing, BadKind, BadValueLength, BadTail, TooManyBroken, BadBasket, KeyTwice, Full, BadMessage, BadLogLength, NoMessage, BadLayout, BadLineLength}
+use Rattle.refusals.specs.declared.Refusal.TheVariants.{BadImageLength, NotFormatted, BadHeader, BadIndexLength}
+use Rattle.refusals.specs.declared.Refusal.TheVariants.{BadMark, BadKindBits, VersionShared, NoSpareSlot, Exhausted}
+use Rattle.refusals.specs.declared.Refusal.TheVariants.{ValueTooLong, IndexMismatch, BufferTooShort, CountTooHigh}
+use Rattle.refusals.specs.declared.Refusal.TheVariants.{BadStores, BadLine, NewKeyExists, NoOrder, BadQuantity}
+use Rattle.refusals.specs.declared.Refusal.TheVariants.{KeyExists, KeyMissing, BadKind, BadValueLength, BadTail}
+use Rattle.refusals.specs.declared.Refusal.TheVariants.{TooManyBroken, BadBasket, KeyTwice, Full, BadMessage}
+use Rattle.refusals.specs.declared.Refusal.TheVariants.{BadLogLength, NoMessage, BadLayout, BadLineLength}
 use Rattle.refusals.specs.Number.{code_of, fault_in}
 
 pub number_above : (r : Refusal) → 0 < code_of r

@@ -1,7 +1,13 @@
 -- The number of a refusal.
 use Rattle.std.specs.Prelude.{ℕ, Result, Ok, Err}
 use Rattle.refusals.specs.declared.Refusal.{Refusal}
-use Rattle.refusals.specs.declared.Refusal.TheVariants.{BadImageLength, NotFormatted, BadHeader, BadIndexLength, BadMark, BadKindBits, VersionShared, NoSpareSlot, Exhausted, ValueTooLong, IndexMismatch, BufferTooShort, CountTooHigh, BadStores, BadLine, NewKeyExists, NoOrder, BadQuantity, KeyExists, KeyMissing, BadKind, BadValueLength, BadTail, TooManyBroken, BadBasket, KeyTwice, Full, BadMessage, BadLogLength, NoMessage, BadLayout, BadLineLength}
+use Rattle.refusals.specs.declared.Refusal.TheVariants.{BadImageLength, NotFormatted, BadHeader, BadIndexLength}
+use Rattle.refusals.specs.declared.Refusal.TheVariants.{BadMark, BadKindBits, VersionShared, NoSpareSlot, Exhausted}
+use Rattle.refusals.specs.declared.Refusal.TheVariants.{ValueTooLong, IndexMismatch, BufferTooShort, CountTooHigh}
+use Rattle.refusals.specs.declared.Refusal.TheVariants.{BadStores, BadLine, NewKeyExists, NoOrder, BadQuantity}
+use Rattle.refusals.specs.declared.Refusal.TheVariants.{KeyExists, KeyMissing, BadKind, BadValueLength, BadTail}
+use Rattle.refusals.specs.declared.Refusal.TheVariants.{TooManyBroken, BadBasket, KeyTwice, Full, BadMessage}
+use Rattle.refusals.specs.declared.Refusal.TheVariants.{BadLogLength, NoMessage, BadLayout, BadLineLength}
 
 -- "a refusal carries a number": each number below 34 but 12 is that of one refusal
 abbrev pub code_of : Refusal → ℕ

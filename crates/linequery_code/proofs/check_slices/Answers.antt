@@ -9,8 +9,8 @@ pub returns-then-line-ne64 : goal.returns-then-line-ne64
 unfolding slice_fault refuse_if
 returns-then-line-ne64 c =
     elim c.then-line-ne64.branch [
-      then-line-ne64-via-then-line-ne64 w ↦ search tests
-    | then-line-ne64-via-else-line-ne64+then-answer-ne8 w ↦ search tests
+      | then-line-ne64-via-then-line-ne64 w ↦ search tests
+      | then-line-ne64-via-else-line-ne64+then-answer-ne8 w ↦ search tests
     ]
 
 pub returns : goal.returns

@@ -10,7 +10,7 @@ pub returns-then-lent-ne0 : goal.returns-then-lent-ne0
 unfolding get_fault
 returns-then-lent-ne0 c =
     let lent : c.return_code-lent.result ≡ lent_fault c.args.l c.args.image.now (length c.args.heads.now) (length c.args.next.now) =
-        c.return_code-lent.ensures.result ∙ c.check_lent.ensures.fault in
+    c.return_code-lent.ensures.result ∙ c.check_lent.ensures.fault in
     search (refused_early)
 
 pub slot_count-requires : goal.slot_count-requires
@@ -22,14 +22,14 @@ pub find_key-found-requires : goal.find_key-found-requires
 unfolding get_fault
 find_key-found-requires c =
     let lent : c.return_code-lent.result ≡ lent_fault c.args.l c.args.image.now (length c.args.heads.now) (length c.args.next.now) =
-        c.return_code-lent.ensures.result ∙ c.check_lent.ensures.fault in
+    c.return_code-lent.ensures.result ∙ c.check_lent.ensures.fault in
     search (lent_sized, rules)
 
 pub get_later_fault-fault-requires : goal.get_later_fault-fault-requires
 unfolding get_fault
 get_later_fault-fault-requires c =
     let lent : c.return_code-lent.result ≡ lent_fault c.args.l c.args.image.now (length c.args.heads.now) (length c.args.next.now) =
-        c.return_code-lent.ensures.result ∙ c.check_lent.ensures.fault in
+    c.return_code-lent.ensures.result ∙ c.check_lent.ensures.fault in
     search (lent_inside, rules)
 
 pub looked_up-requires : goal.looked_up-requires
@@ -41,5 +41,5 @@ pub returns : goal.returns
 unfolding get_fault
 returns c =
     let lent : c.return_code-lent.result ≡ lent_fault c.args.l c.args.image.now (length c.args.heads.now) (length c.args.next.now) =
-        c.return_code-lent.ensures.result ∙ c.check_lent.ensures.fault in
+    c.return_code-lent.ensures.result ∙ c.check_lent.ensures.fault in
     search (get_looks)

@@ -30,7 +30,7 @@ returns-then-lent-ne0 c =
 pub find_key-found-requires : goal.find_key-found-requires
 find_key-found-requires c =
     let lent : c.return_code-lent.result ≡ lent_fault c.args.l c.args.image.now (length c.args.heads.now) (length c.args.next.now) =
-        c.return_code-lent.ensures.result ∙ c.check_lent.ensures.fault in
+    c.return_code-lent.ensures.result ∙ c.check_lent.ensures.fault in
     search (lent_sized, rules)
 
 pub read_word-requires : goal.read_word-requires
@@ -45,9 +45,11 @@ unfolding locate_says compared_in
 returns-in-At c =
     record {
       result = (ap₂ left
-          (locate_held _ _ _ _ _ _ (c.return_code-lent.ensures.result ∙ c.check_lent.ensures.fault) c.if-lent-ne0.false _ c.find_key-found.ensures.result _ _ _ _ c.in-At.is
+          (locate_held _ _ _ _ _ _ (c.return_code-lent.ensures.result ∙ c.check_lent.ensures.fault)
+          c.if-lent-ne0.false _ c.find_key-found.ensures.result _ _ _ _ c.in-At.is
           c.read_word.ensures.result)
-          (locate_compares _ _ _ _ _ _ (c.return_code-lent.ensures.result ∙ c.check_lent.ensures.fault) c.if-lent-ne0.false _ c.find_key-found.ensures.result _ c.in-At.is));
+          (locate_compares _ _ _ _ _ _ (c.return_code-lent.ensures.result ∙ c.check_lent.ensures.fault)
+          c.if-lent-ne0.false _ c.find_key-found.ensures.result _ c.in-At.is));
     }
 
 pub returns-in-Missing : goal.returns-in-Missing
@@ -55,9 +57,11 @@ unfolding locate_says compared_in
 returns-in-Missing c =
     record {
       result = (ap₂ left
-          (locate_not_held _ _ _ _ _ _ (c.return_code-lent.ensures.result ∙ c.check_lent.ensures.fault) c.if-lent-ne0.false _ c.find_key-found.ensures.result _ _
+          (locate_not_held _ _ _ _ _ _ (c.return_code-lent.ensures.result ∙ c.check_lent.ensures.fault)
+          c.if-lent-ne0.false _ c.find_key-found.ensures.result _ _
           c.in-Missing.is)
-          (locate_compares _ _ _ _ _ _ (c.return_code-lent.ensures.result ∙ c.check_lent.ensures.fault) c.if-lent-ne0.false _ c.find_key-found.ensures.result _ c.in-Missing.is));
+          (locate_compares _ _ _ _ _ _ (c.return_code-lent.ensures.result ∙ c.check_lent.ensures.fault)
+          c.if-lent-ne0.false _ c.find_key-found.ensures.result _ c.in-Missing.is));
     }
 
 pub returns-in-BadChain : goal.returns-in-BadChain
@@ -65,6 +69,8 @@ unfolding locate_says compared_in
 returns-in-BadChain c =
     record {
       result = (ap₂ left
-          (locate_bad _ _ _ _ _ _ (c.return_code-lent.ensures.result ∙ c.check_lent.ensures.fault) c.if-lent-ne0.false _ c.find_key-found.ensures.result c.in-BadChain.is)
-          (locate_compares _ _ _ _ _ _ (c.return_code-lent.ensures.result ∙ c.check_lent.ensures.fault) c.if-lent-ne0.false _ c.find_key-found.ensures.result _ c.in-BadChain.is));
+          (locate_bad _ _ _ _ _ _ (c.return_code-lent.ensures.result ∙ c.check_lent.ensures.fault)
+          c.if-lent-ne0.false _ c.find_key-found.ensures.result c.in-BadChain.is)
+          (locate_compares _ _ _ _ _ _ (c.return_code-lent.ensures.result ∙ c.check_lent.ensures.fault)
+          c.if-lent-ne0.false _ c.find_key-found.ensures.result _ c.in-BadChain.is));
     }

@@ -12,9 +12,9 @@ returns-in_err-check_play c =
 pub returns-then-copy-len : goal.returns-then-copy-len
 returns-then-copy-len c =
     elim c.then-copy-len.branch [
-      then-copy-len-via-then-copy-len w ↦ copy_other _ _ _ _ _ c.in_ok-check_play.ensures.result refl w.if-copy-len.true
-    | then-copy-len-via-else-copy-len+then-later-len w ↦
-        later_other _ _ _ _ _ c.in_ok-check_play.ensures.result refl w.if-copy-len.false w.if-later-len.true
+      | then-copy-len-via-then-copy-len w ↦ copy_other _ _ _ _ _ c.in_ok-check_play.ensures.result refl w.if-copy-len.true
+      | then-copy-len-via-else-copy-len+then-later-len w ↦
+          later_other _ _ _ _ _ c.in_ok-check_play.ensures.result refl w.if-copy-len.false w.if-later-len.true
     ]
 
 pub returns : goal.returns

@@ -23,13 +23,13 @@ loop-init c =
     let all : c.args.n - 0 ≡ c.args.n = omega arith in
     rw all (begins _ _ _ _ _ _ _ c.requires.1.slot_count (c.head_of-head.ensures.result.1 c.args.high) (c.shared_slice_known-4-1.given _).fits)
 
-pub returns-then-at-eq0 : goal.returns-then-at-eq0
-returns-then-at-eq0 c =
-    record { result = (at-end _ _ _ _ _ _ _ _ _ _ c.loop.invariant (search rules) c.if-at-eq0.true) }
+pub returns-then-at-eq-END : goal.returns-then-at-eq-END
+returns-then-at-eq-END c =
+    record { result = (at-end _ _ _ _ _ _ _ _ _ _ c.loop.invariant (search rules) c.if-at-eq-END.true) }
 
 pub returns-then-n-slot : goal.returns-then-n-slot
 returns-then-n-slot c =
-    record { result = (past _ _ _ _ _ _ _ _ _ _ c.loop.invariant (search rules) c.if-at-eq0.false c.if-n-slot.true) }
+    record { result = (past _ _ _ _ _ _ _ _ _ _ c.loop.invariant (search rules) c.if-at-eq-END.false c.if-n-slot.true) }
 
 pub has_key-requires : goal.has_key-requires
 has_key-requires c =
@@ -38,14 +38,14 @@ has_key-requires c =
 pub returns-then-has_key : goal.returns-then-has_key
 returns-then-has_key c =
     record {
-      result = (here _ _ _ _ _ _ _ _ _ _ c.loop.invariant (search rules) c.if-at-eq0.false c.if-n-slot.false _
+      result = (here _ _ _ _ _ _ _ _ _ _ c.loop.invariant (search rules) c.if-at-eq-END.false c.if-n-slot.false _
           c.has_key.ensures.result c.if-has_key.true);
     }
 
 pub loop-preserved : goal.loop-preserved
 loop-preserved c =
     let less : c.args.n - (c.loop.counter + 1) ≡ c.args.n - c.loop.counter - 1 = omega arith in
-    rw less (on _ _ _ _ _ _ _ _ _ _ c.loop.invariant (search rules) c.if-at-eq0.false c.if-n-slot.false _
+    rw less (on _ _ _ _ _ _ _ _ _ _ c.loop.invariant (search rules) c.if-at-eq-END.false c.if-n-slot.false _
     c.has_key.ensures.result c.if-has_key.false
     (c.shared_slice_known-in-loop-1.given _).fits)
 

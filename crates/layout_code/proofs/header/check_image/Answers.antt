@@ -13,7 +13,9 @@ check_header-requires c =
     (omega (arith, (long _ (λ e. c.if-n-eq0.false (c.slot_count-n.ensures.result ∙ e))).size), omega arith)
 
 pub returns-in_err-check_header-clause-fault : goal.returns-in_err-check_header-clause-fault
-returns-in_err-check_header-clause-fault c = rw (handed_on _ _ c.from_residual.ensures.1) (by_header _ _ _ c.slot_count-n.ensures.result c.if-n-eq0.false _ c.in_err-check_header.ensures)
+returns-in_err-check_header-clause-fault c =
+    rw (handed_on _ _ c.from_residual.ensures.1)
+    (by_header _ _ _ c.slot_count-n.ensures.result c.if-n-eq0.false _ c.in_err-check_header.ensures)
 
 pub returns-clause-fault : goal.returns-clause-fault
 returns-clause-fault c = by_header _ _ _ c.slot_count-n.ensures.result c.if-n-eq0.false _ c.in_ok-check_header.ensures

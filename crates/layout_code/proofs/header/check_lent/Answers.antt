@@ -15,7 +15,8 @@ check_index-requires c = omega (arith, c.in_ok-n.ensures.slots, slots_high (leng
 
 pub returns-in_err-check_index-clause-fault : goal.returns-in_err-check_index-clause-fault
 returns-in_err-check_index-clause-fault c =
-    rw (handed_on _ _ c.from_residual-in_err-check_index.ensures.1) (by_index _ _ _ _ _ c.in_ok-n.ensures.fault refl _ _ c.in_ok-n.ensures.slots c.in_err-check_index.ensures.result)
+    rw (handed_on _ _ c.from_residual-in_err-check_index.ensures.1)
+    (by_index _ _ _ _ _ c.in_ok-n.ensures.fault refl _ _ c.in_ok-n.ensures.slots c.in_err-check_index.ensures.result)
 
 pub returns-clause-fault : goal.returns-clause-fault
 returns-clause-fault c = by_index _ _ _ _ _ c.in_ok-n.ensures.fault refl _ _ c.in_ok-n.ensures.slots c.in_ok-check_index.ensures.result

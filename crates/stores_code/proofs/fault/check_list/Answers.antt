@@ -9,8 +9,8 @@ returns-then-at-values c =
     record {
       result =
           elim c.then-at-values.branch [
-            then-at-values-via-then-at-values w ↦ search list_sizes
-          | then-at-values-via-else-at-values+then-any_outside w ↦ search list_outside
+            | then-at-values-via-then-at-values w ↦ search list_sizes
+            | then-at-values-via-else-at-values+then-any_outside w ↦ search list_outside
           ];
     }
 

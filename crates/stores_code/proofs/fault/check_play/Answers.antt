@@ -12,8 +12,8 @@ returns-then-a-gt8 c =
     record {
       result =
           elim c.then-a-gt8.branch [
-            then-a-gt8-via-then-a-gt8 w ↦ search play_first
-          | then-a-gt8-via-else-a-gt8+then-b-gt8 w ↦ search play_second
+            | then-a-gt8-via-then-a-gt8 w ↦ search play_first
+            | then-a-gt8-via-else-a-gt8+then-b-gt8 w ↦ search play_second
           ];
     }
 

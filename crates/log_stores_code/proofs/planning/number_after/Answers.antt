@@ -1,9 +1,9 @@
--- Answers of `log_stores_code::planning::next_number`.
+-- Answers of `log_stores_code::planning::number_after`.
 use Rattle.std.proofs.Common.{suc, ◌^◌, sym, arith}
 use borrow.Author.Tests.{le-leb, lt-leb}
 use Rattle.prelude.proofs.Refusals.{refuse_if-true, refuse_if-false}
 use Rattle.layout.specs.Line.{version_fault}
-use Rattle.log_stores_code.proofs.planning.next_number.Goals as goal
+use Rattle.log_stores_code.proofs.planning.number_after.Goals as goal
 
 pub returns-then-last-clause-fault : goal.returns-then-last-clause-fault
 unfolding version_fault
