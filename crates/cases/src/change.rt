@@ -1,6 +1,6 @@
 // The calls that hand out stores: insert, replace and remove, and the steps of the book.
-use crate::book::Moved;
 use crate::line::Change;
+use crate::quantities::Moved;
 use crate::set::Set;
 use book_code::{BookChange, BookOutcome, acknowledge, fill, new, withdraw};
 use orderset::{Outcome, State, insert, remove, replace};

@@ -4,10 +4,10 @@
 // has no such name, is only printed.
 #![tactic(auto)]
 
-mod book;
 mod change;
 mod image;
 mod line;
+mod quantities;
 mod read;
 mod set;
 

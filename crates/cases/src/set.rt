@@ -3,8 +3,8 @@
 // than all of it.
 ghost use Rattle.std.specs.Prelude.{◌≤◌};
 
-use crate::book::Book;
 use crate::line::{Fronts, Part};
+use crate::quantities::Book;
 use orderset::{Invalidations, State, Stores};
 use std::io::Stdout;
 
