@@ -86,28 +86,25 @@ pub fn count_with_indexes(
     let index = index_image(image, l, heads, next);
     match index {
         Indexed::Nothing(number) => CutCounts::Refused(number),
-        Indexed::Map(_) => {
-            if let Err(refusal) = check_arguments(image.len(), stores, copy.len(), later.len()) {
-                return CutCounts::Refused(refusal.code());
+        Indexed::Map(_) => match check_arguments(image.len(), stores, copy.len(), later.len()) {
+            Err(refusal) => CutCounts::Refused(refusal.code()),
+            Ok(()) => {
+                let Tally { earlier, later } = tally(
+                    image,
+                    heads,
+                    next,
+                    index,
+                    l,
+                    stores,
+                    copy,
+                    later,
+                    later_heads,
+                    later_next,
+                    copy_heads,
+                    copy_next,
+                );
+                CutCounts::Counted { earlier, later }
             }
-            let t = tally(
-                image,
-                heads,
-                next,
-                index,
-                l,
-                stores,
-                copy,
-                later,
-                later_heads,
-                later_next,
-                copy_heads,
-                copy_next,
-            );
-            CutCounts::Counted {
-                earlier: t.earlier,
-                later: t.later,
-            }
-        }
+        },
     }
 }

@@ -13,8 +13,8 @@ returns-in-Err c =
           (c.code.ensures.result ∙ c.in-Err.ensures) (λ z. not_zero _ (sym c.code.ensures.result ∙ z)));
     }
 
-pub tally-t-requires : goal.tally-t-requires
-tally-t-requires c =
+pub tally-earlier-requires : goal.tally-earlier-requires
+tally-earlier-requires c =
     let long = copies_long _ _ _ _ _ c.in-Ok.ensures refl in
     (c.requires.0, c.index_image-index.ensures.result, long.0, long.1, c.requires.2, c.requires.3)
 
@@ -28,5 +28,5 @@ returns-in-Ok c =
       result = (counted-all _ _ _ _ _ _
           (mapped_clear _ _ _ _ _ (mapped _ _ _ _ _ c.index_image-index.ensures.result _ c.in-Map.is)) _
           c.in-Ok.ensures refl _ _ _
-          c.tally-t.ensures.0 c.tally-t.ensures.1 c.tally-t.ensures.2);
+          c.tally-earlier.ensures.0 c.tally-earlier.ensures.1 c.tally-earlier.ensures.2);
     }

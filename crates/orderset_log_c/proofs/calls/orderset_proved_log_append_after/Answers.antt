@@ -6,7 +6,7 @@ use Rattle.orderset_log_c.proofs.calls.orderset_proved_log_append_after.Goals as
 
 pub returns-in-Err : goal.returns-in-Err
 unfolding refusal_in given_or log_answer hand_call
-returns-in-Err c = record { result = rw (c.number.ensures.result, ← c.append_after.ensures.result, c.in-Err.is) }
+returns-in-Err c = record { result = rw (c.code.ensures.result, ← c.append_after.ensures.result, c.in-Err.is) }
 
 pub returns-in-Ok : goal.returns-in-Ok
 unfolding refusal_in given_or log_answer hand_call
