@@ -16,7 +16,7 @@ mod single;
 use line::{Call, set_call, set_part};
 use set::Set;
 use show::input::read_full;
-use show::lines::is_asked;
+use show::lines::{is_asked, without_end};
 use std::io::Stdout;
 
 fn run_basket_call(set: &mut Set, stdout: Stdout, call: Call) {
@@ -54,10 +54,7 @@ fn run_basket_line(set: &mut Set, stdout: Stdout, line: &[u8]) {
 fn run_baskets(stdout: Stdout, input: &[u8]) {
     let mut set = Set::default();
     for line in input.split_inclusive(|byte| *byte <= b'\n') {
-        match line {
-            [line @ .., end] if *end <= b'\n' => run_basket_line(&mut set, stdout, line),
-            _ => run_basket_line(&mut set, stdout, line),
-        }
+        run_basket_line(&mut set, stdout, without_end(line));
     }
 }
 

@@ -13,6 +13,7 @@ mod line;
 use both::Both;
 use line::{Call, list_call};
 use show::input::read_full;
+use show::lines::without_end;
 use std::io::Stdout;
 
 fn run_list_call(both: &mut Both, stdout: Stdout, call: Call) {
@@ -40,10 +41,7 @@ fn run_list_line(both: &mut Both, stdout: Stdout, line: &[u8]) {
 fn run_lists(stdout: Stdout, input: &[u8]) {
     let mut both = Both::default();
     for line in input.split_inclusive(|byte| *byte <= b'\n') {
-        match line {
-            [line @ .., end] if *end <= b'\n' => run_list_line(&mut both, stdout, line),
-            _ => run_list_line(&mut both, stdout, line),
-        }
+        run_list_line(&mut both, stdout, without_end(line));
     }
 }
 

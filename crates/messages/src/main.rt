@@ -11,7 +11,7 @@ mod line;
 use lent::Log;
 use line::{Call, Part, log_part, message_call};
 use show::input::read_full;
-use show::lines::is_asked;
+use show::lines::{is_asked, without_end};
 use std::io::Stdout;
 
 fn run_message_call(log: &mut Log, stdout: Stdout, call: Call) {
@@ -59,10 +59,7 @@ fn run_message_line(log: &mut Log, stdout: Stdout, line: &[u8]) {
 fn run_messages(stdout: Stdout, input: &[u8]) {
     let mut log = Log::default();
     for line in input.split_inclusive(|byte| *byte <= b'\n') {
-        match line {
-            [line @ .., end] if *end <= b'\n' => run_message_line(&mut log, stdout, line),
-            _ => run_message_line(&mut log, stdout, line),
-        }
+        run_message_line(&mut log, stdout, without_end(line));
     }
 }
 

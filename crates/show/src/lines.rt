@@ -1,5 +1,5 @@
 // Lines of the input: a name, and up to four numbers after it.
-ghost use Rattle.std.specs.Prelude.{◌≤◌, length};
+ghost use Rattle.std.specs.Prelude.{◌≡◌, ◌≤◌, length, take};
 ghost use Rattle.show.specs.Fronts.{IsPrefixLen};
 
 // The place of the first byte below this bound at or after `from`, or the length.
@@ -41,7 +41,9 @@ pub fn decimal_digit(n: u64, i: usize) -> u64 {
 }
 
 // A line without the byte below 11 that ends it, if there is one.
-pub fn without_end(line: &[u8]) -> &[u8] {
+pub fn without_end(line: &[u8]) -> &[u8]
+    ensures front { result.now ≡ take (length result.now) line.now }
+{
     match line {
         [front @ .., 0..=10] => front,
         _ => line,

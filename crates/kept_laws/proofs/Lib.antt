@@ -1,0 +1,3 @@
+pub mod ListFaults
+pub mod Moved
+pub mod Plans

@@ -1,0 +1,3 @@
+// Laws that documents name and that no function's proof needs. There is no code.
+
+#![tactic(auto)]
