@@ -73,13 +73,6 @@ pub either_is : (a b : Bool) → a || b ≡ cond a true b
 either_is true b = refl
 either_is false b = refl
 
-pub any_in_range : (p : ℕ → Bool) (k n : ℕ) → list_any p (range_with_len k n) ≡ any_of p k n
-unfolding any_of
-any_in_range p k zero = refl
-any_in_range p k (suc n) =
-    let next : k + 1 ≡ suc k = omega arith in
-    either_is (p k) _ ∙ ap (λ (b : Bool). cond (p k) true b) (any_in_range p (k + 1) n ∙ ap (λ (x : ℕ). any_of p x n) next)
-
 any_and_last : (p : ℕ → Bool) (xs : List ℕ) (x : ℕ) → list_any p (xs ++ x ∷ []) ≡ cond (p x) true (list_any p xs)
 any_and_last p [] x = either_is (p x) false
 any_and_last p (y ∷ xs) x = ap (λ (b : Bool). p y || b) (any_and_last p xs x) ∙ go (p y) (p x) (list_any p xs)

@@ -7,7 +7,12 @@ use words_code::read_word;
 // A play's answer, and how many bytes of the two images differ.
 fn show_played(stdout: Stdout, answer: Result<(), Refusal>, before: &[u8; 640], image: &[u8; 640]) {
     let answer = return_code(answer);
-    let changed = before.iter().zip(image).filter(|(a, b)| a != b).count();
+    let mut changed: usize = 0;
+    for i in 0..640 {
+        if before[i] != image[i] {
+            changed += 1;
+        }
+    }
     let _ = print!(stdout; " {answer} changed {changed}");
 }
 

@@ -1,7 +1,7 @@
 // A session from standard input to standard output, of any size; and the output of one that is read byte by byte.
 #![tactic(auto)]
 
-ghost use Rattle.std.specs.Prelude.{◌≡◌, false, cond, ◌≤◌, length, IsOk, OnOk};
+ghost use Rattle.std.specs.Prelude.{◌≡◌, true, false, not, cond, ◌≤◌, eqb, length, IsOk, IsErr, OnOk, IfOk};
 ghost use Rattle.session.specs.Step.{step_result};
 ghost use Rattle.session.specs.Stream.{stream_end, lacks_room, emptied, after_read};
 
@@ -15,6 +15,14 @@ use std::io::{Stdin, Stdout};
 #[derive(Clone, Copy, Debug, PartialEq, Eq)]
 pub struct Unwritten;
 
+// An error where a write has failed.
+fn check_written(written: bool) -> Result<(), Unwritten>
+    ensures ok { written ≡ true → IsOk result }
+    ensures err { written ≡ false → IsErr result }
+{
+    if written { Ok(()) } else { Err(Unwritten) }
+}
+
 // The stored output is written, and the next line is stored at the front; whether it can be written is the system's.
 #[tactic(auto, unfolding(session::specs::Stream::emptied))]
 pub fn flush(stdout: Stdout, progress: &mut Progress, out: &[u8]) -> Result<(), Unwritten>
@@ -23,11 +31,10 @@ pub fn flush(stdout: Stdout, progress: &mut Progress, out: &[u8]) -> Result<(), 
 {
     let at = progress.at;
     progress.at = 0;
-    if at <= out.len() && show::written(stdout, &out[..at]) {
-        Ok(())
-    } else {
-        Err(Unwritten)
+    if out.len() < at {
+        return Err(Unwritten);
     }
+    check_written(show::written(stdout, &out[..at]))
 }
 
 // After a byte: the output is written before a further line might lack room, and only then.
@@ -42,8 +49,9 @@ pub fn after_byte(stdout: Stdout, progress: &mut Progress, out: &[u8]) -> Result
     }
 }
 
-// The bytes of one read, up to a write that fails, and the output of all of them is written. The image, the
-// index and the output are lent one by one, as `take_byte` takes them.
+// The bytes of one read, up to a write that fails, and the output of all of them is written. Whether the input may have
+// more: where there are no bytes, it has ended. The image, the index and the output are lent one by one, as `take_byte`
+// takes them.
 fn take_bytes(
     stdout: Stdout,
     progress: &mut Progress,
@@ -52,17 +60,19 @@ fn take_bytes(
     heads: &mut [u32],
     next: &mut [u32],
     out: &mut [u8],
-) -> Result<(), Unwritten>
+) -> Result<bool, Unwritten>
     ensures stream { OnOk result (
         stream_end progress.new image.new heads.new next.new out.new ≡
         after_read step_result
         (stream_end progress.old image.old heads.old next.old out.old) input.now) }
+    ensures reading { IfOk result (λ more. more ≡ not (eqb (length input.now) 0)) }
 {
     for &byte in input {
         *progress = take_byte(*progress, byte, image, heads, next, out);
         after_byte(stdout, progress, out)?;
     }
-    flush(stdout, progress, out)
+    flush(stdout, progress, out)?;
+    Ok(!input.is_empty())
 }
 
 fn take_input(stdin: Stdin, stdout: Stdout) -> Result<(), Unwritten> {
@@ -75,10 +85,7 @@ fn take_input(stdin: Stdin, stdout: Stdout) -> Result<(), Unwritten> {
     // The reads are counted, since nothing says that the input ends.
     for _ in 0..u64::MAX {
         let n = read_some(stdin, &mut input);
-        if n == 0 {
-            break;
-        }
-        take_bytes(
+        let more = take_bytes(
             stdout,
             &mut progress,
             &input[..n],
@@ -87,6 +94,9 @@ fn take_input(stdin: Stdin, stdout: Stdout) -> Result<(), Unwritten> {
             &mut next,
             &mut out,
         )?;
+        if !more {
+            break;
+        }
     }
     progress = end_input(progress, &mut image, &mut heads, &mut next, &mut out);
     flush(stdout, &mut progress, &out)

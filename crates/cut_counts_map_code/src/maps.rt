@@ -94,6 +94,7 @@ pub fn have_one_map(
             second_live,
             l,
         ),
-        _ => false,
+        (Indexed::Map(_), Indexed::Nothing(_)) => false,
+        (Indexed::Nothing(_), _) => false,
     }
 }

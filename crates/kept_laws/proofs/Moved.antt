@@ -15,6 +15,10 @@ pub record Moving (old : List ℕ) (from n i : ℕ) (new : List ℕ) : Type 0 wh
   pub moved : (k : ℕ) → k < i → get_or new k 0 ≡ get_or old (from + k) 0
   pub kept : (k : ℕ) → i ≤ k → get_or new k 0 ≡ get_or old k 0
 
+pub moving_start : (old : List ℕ) (from n : ℕ) → Moving old from n 0 old
+moving_start old from n =
+    record { upto = omega arith; size = refl; moved = λ k h. absurd (omega arith); kept = λ k h. refl }
+
 pub moving_next : (old : List ℕ) (from n i : ℕ) (new : List ℕ) → Moving old from n i new → i < n → from + n ≤ length old
     → Moving old from n (i + 1) (set new i (get_or new (from + i) 0))
 moving_next old from n i new g h fits =

@@ -25,16 +25,27 @@ pub fn value_word(image: &[u8], l: usize, s: usize, i: usize) -> u64
     read_word(image, 16 * s + value_place(l, i))
 }
 
-// The first n bytes of the value in slot s fill the front of out, a word a step, or of the last word the bytes that are
-// left. The count of steps.
+// Step i of copying the first n bytes of the value in slot s: word i, or of the last one the bytes that are left. The
+// number of the next step.
+fn copy_step(image: &[u8], l: usize, s: usize, out: &mut [u8], n: usize, i: usize) -> usize
+    requires { SlotInside image.now l s × (8 * i < n) × (n ≤ limit l) × (n ≤ length out.old) }
+    ensures { (result ≡ i + 1) ×
+        (out.new ≡ set_bytes out.old (8 * i) (min 8 (n - 8 * i))
+        (value_word l (line_a (word image.now) s) (line_b (word image.now) s) i)) }
+{
+    write_part(out, i, n, value_word(image, l, s, i));
+    i + 1
+}
+
+// The first n bytes of the value in slot s fill the front of out, a word a step. The count of steps.
 pub fn copy_value(image: &[u8], l: usize, s: usize, out: &mut [u8], n: usize) -> usize
     requires { SlotInside image.now l s × (n ≤ limit l) × (n ≤ length out.old) }
     ensures result { (result ≡ words_moved n) ×
         (out.new ≡ value_front l (line_a (word image.now) s) (line_b (word image.now) s) n ++ drop n out.old) }
 {
-    let words = n.div_ceil(8);
-    for i in 0..words {
-        write_part(out, i, n, value_word(image, l, s, i));
+    let mut i = 0;
+    for _ in 0..n.div_ceil(8) {
+        i = copy_step(image, l, s, out, n, i);
     }
-    words
+    i
 }

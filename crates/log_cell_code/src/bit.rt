@@ -20,12 +20,14 @@ pub fn differing_word(area: &[u8], n: usize, message: &[u8], i: usize) -> usize
     if message.len() <= 64 * i {
         return nonzero_word(area, n);
     }
-    for place in (0..8).rev() {
-        if read_word(area, 8 * n + place) != padded_word(message, 8 * i + place) {
-            return place;
+    'search: {
+        for place in (0..8).rev() {
+            if read_word(area, 8 * n + place) != padded_word(message, 8 * i + place) {
+                break 'search place;
+            }
         }
+        8
     }
-    8
 }
 
 // The same where the new line is zeros: the place of the highest word that is not zero.
@@ -33,12 +35,14 @@ fn nonzero_word(area: &[u8], n: usize) -> usize
     requires { 64 * n + 64 ≤ length area.now }
     ensures { result ≡ differing_place 8 (line (word area.now) n) (λ (j : ℕ). 0) }
 {
-    for place in (0..8).rev() {
-        if read_word(area, 8 * n + place) != 0 {
-            return place;
+    'search: {
+        for place in (0..8).rev() {
+            if read_word(area, 8 * n + place) != 0 {
+                break 'search place;
+            }
         }
+        8
     }
-    8
 }
 
 // How many words of a line are stored: word 0 up to the one at this place, and none of equal lines.

@@ -11,3 +11,4 @@ pub use appending::append;
 pub use message_log::{LogStored, Part};
 pub use reading::{find, read};
 pub use recovering::recover_log;
+pub use refusals::Refusal;

@@ -3,7 +3,7 @@
 // standard error says how far it is.
 #![tactic(auto)]
 
-ghost use Rattle.std.specs.Prelude.{◌≡◌, length, OnOk};
+ghost use Rattle.std.specs.Prelude.{◌≡◌, not, length, ◌==◌, OnOk, IfOk};
 ghost use Rattle.session.specs.Stream.{stream_end, after_read};
 ghost use Rattle.trace.specs.Step.{trace_result};
 
@@ -41,8 +41,9 @@ impl Tried {
     }
 }
 
-// The bytes of one read, up to a write that fails, and the output of all of them is written. The image, the
-// index and the output are lent one by one, as `trace_byte` takes them.
+// The bytes of one read, up to a write that fails, and the output of all of them is written. Whether the input may have
+// more: where there are no bytes, it has ended. The image, the index and the output are lent one by one, as `trace_byte`
+// takes them.
 fn trace_bytes(
     rt: &(impl Eprint + Clock),
     stdout: Stdout,
@@ -55,11 +56,12 @@ fn trace_bytes(
     copy: &mut [u8],
     later: &mut [u8],
     out: &mut [u8],
-) -> Result<(), Unwritten>
+) -> Result<bool, Unwritten>
     ensures stream { OnOk result (
         stream_end progress.new image.new heads.new next.new out.new ≡
         after_read (trace_result (length copy.old) (length later.old))
         (stream_end progress.old image.old heads.old next.old out.old) input.now) }
+    ensures reading { IfOk result (λ more. more ≡ not (length input.now == 0)) }
 {
     for &byte in input {
         let at = progress.at;
@@ -69,7 +71,8 @@ fn trace_bytes(
         }
         after_byte(stdout, progress, out)?;
     }
-    flush(stdout, progress, out)
+    flush(stdout, progress, out)?;
+    Ok(!input.is_empty())
 }
 
 fn trace_input(rt: &(impl Eprint + Clock), stdin: Stdin, stdout: Stdout) -> Result<(), Unwritten> {
@@ -89,10 +92,7 @@ fn trace_input(rt: &(impl Eprint + Clock), stdin: Stdin, stdout: Stdout) -> Resu
     // The reads are counted, since nothing says that the input ends.
     for _ in 0..u64::MAX {
         let n = read_some(stdin, &mut input);
-        if n == 0 {
-            break;
-        }
-        trace_bytes(
+        let more = trace_bytes(
             rt,
             stdout,
             &mut progress,
@@ -105,6 +105,9 @@ fn trace_input(rt: &(impl Eprint + Clock), stdin: Stdin, stdout: Stdout) -> Resu
             &mut later,
             &mut out,
         )?;
+        if !more {
+            break;
+        }
     }
     progress = trace_end(
         progress, &mut image, &mut heads, &mut next, &mut copy, &mut later, &mut out,

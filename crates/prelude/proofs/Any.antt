@@ -1,12 +1,14 @@
 -- A test over a range: a search for it turn by turn, and a test that holds nowhere. Assumes nothing.
 use mathlib.Core.Path.{◌≡◌, refl, sym, ap, ap₂, ◌∙◌}
-use mathlib.Core.Bool.{Bool, true, false, cond, true≢false}
+use mathlib.Core.Bool.{Bool, true, false, cond, ◌||◌, true≢false}
 use mathlib.Core.Logic.{◌⊎◌, inl, inr}
 use mathlib.Core.List.{List, [], ◌∷◌}
 use Prim.Native.Nat.{ℕ, zero, suc, ◌+◌, ◌-◌, ◌≤◌, ◌<◌}
 use native.Mathlib.Omega.{arith}
+use native.Mathlib.Numerals.{add-one}
 use lib.Dec.{eqb}
 use borrow.Author.Tests.{eqb-true, eqb-false}
+use Rattle.std.specs.List.{list_any, range_with_len}
 use Rattle.prelude.specs.Members.{In, Slot}
 use Rattle.prelude.specs.Filter.{any_in}
 use Rattle.prelude.specs.Range.{any_of}
@@ -44,6 +46,17 @@ module _ {p : ℕ → Bool} {start n end k : ℕ} (g : Going p start n end k) wh
   pub any_end : end ≤ k → false ≡ any_of p start n
   unfolding any_of
   any_end h = ap (any_of p k) (let nothing_left : 0 ≡ end - k = omega arith in nothing_left) ∙ g.rest
+
+-- a test of some number of a range, from that of some element of a list
+pub any_listed : (p : ℕ → Bool) (k n : ℕ) → list_any p (range_with_len k n) ≡ any_of p k n
+unfolding any_of
+any_listed p k zero = refl
+any_listed p k (suc n) =
+    ap (λ (x : ℕ). p k || list_any p (range_with_len x n)) (add-one k) ∙ either (p k) _ _ (any_listed p (suc k) n)
+  where
+    either : (b x y : Bool) → x ≡ y → (b || x) ≡ cond b true y
+    either true x y e = refl
+    either false x y e = e
 
 -- neither of two tests
 pub or_none : (p q : Bool) → cond p true q ≡ false → (p ≡ false) × (q ≡ false)

@@ -27,17 +27,6 @@ use Rattle.recovery.proofs.Orders.{whole_order, whole_within}
 use Rattle.recovery.proofs.Scans.{highs_all}
 use Rattle.recovery.proofs.Neighbours.{neighbours_are, are_neighbours, run_first, twice_is}
 
--- a test of some number of a range, from that of some element of a list
-pub any_listed : (p : ℕ → Bool) (k n : ℕ) → list_any p (range_with_len k n) ≡ any_of p k n
-unfolding any_of
-any_listed p k zero = refl
-any_listed p k (suc n) =
-    ap (λ (x : ℕ). p k || list_any p (range_with_len x n)) (add-one k) ∙ either (p k) _ _ (any_listed p (suc k) n)
-  where
-    either : (b x y : Bool) → x ≡ y → (b || x) ≡ cond b true y
-    either true x y e = refl
-    either false x y e = e
-
 second : (p q : Bool) → p ≡ true → q ≡ p && q
 second true q e = refl
 second false q e = absurd (true-false e refl)

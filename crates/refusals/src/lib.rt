@@ -1,4 +1,4 @@
-// Why a call is not carried out: the error of every function that can refuse.
+// Why a call is not carried out: the error of the functions that answer a Result.
 
 #![tactic(auto)]
 

@@ -21,7 +21,7 @@ use Rattle.stores.specs.Written.{marked, body_a, new_a, new_b, run, line_stores,
 use Rattle.stores.specs.inner.Written.{record_numbers, record_words, with_value, pasted}
 use Rattle.prelude.proofs.Buffers.{Fill, fill_begins, element_on, elements_end, sets_append, paste-sets}
 use Rattle.stores.proofs.Lists.{zipped_back}
-use Rattle.stores.proofs.Placed.{value_moved, value-length}
+use Rattle.stores.proofs.Placed.{value_moved, no_value, value-length}
 use Rattle.stores.proofs.RecordStores.{first_key, past_kind, no_rest, zipped_record}
 
 -- ---- the word numbers
@@ -68,6 +68,29 @@ numbering_end old now s from k w g room h =
     elements_end g.fill (omega (arith, numbers-length s)) ∙ sym (paste-sets old (record_numbers s) from 16 (numbers-length s) room)
 
 -- ---- sixteen values, stored one after the other
+
+-- these are stored from position `from` + k on
+abbrev pub stored_from : List ℕ → (from k : ℕ) → List ℕ → List ℕ
+stored_from words from k [] = words
+stored_from words from k (v ∷ vs) = stored_from (set words (from + k) v) from (suc k) vs
+
+stored_sets : (vs words : List ℕ) (from k : ℕ) → stored_from words from k vs ≡ sets words (from + k) vs
+stored_sets [] words from k = refl
+stored_sets (v ∷ vs) words from k =
+    stored_sets vs (set words (from + k) v) from (suc k) ∙ ap (λ (x : ℕ). sets (set words (from + k) v) x vs) next
+  where
+    next : from + suc k ≡ suc (from + k)
+    next = omega arith
+
+pub stored_pasted : (old : List ℕ) (from v : ℕ) (vs : List ℕ) → from + suc (length vs) ≤ length old
+    → stored_from (set old from v) from 1 vs ≡ pasted old from (v ∷ vs) (suc (length vs))
+unfolding pasted
+stored_pasted old from v vs room =
+    stored_sets vs (set old from v) from 1 ∙ ap (λ (x : ℕ). sets (set old from v) x vs) one
+    ∙ sym (paste-sets old (v ∷ vs) from (suc (length vs)) refl room)
+  where
+    one : from + 1 ≡ suc from
+    one = omega arith
 
 -- some, and behind them more
 pub more_pasted : (old x y first second : List ℕ) (from n k : ℕ) → from + n + k ≤ length old → length x ≡ n → length y ≡ k
@@ -204,3 +227,10 @@ pub whole_record : (l : ℕ) (m : ℕ → ℕ) (s key kind number : ℕ) (value 
 unfolding word_numbers values record_stores line_stores run
 whole_record l m s key kind number value version old at other words e f p q =
     ap₂ zipped (whole_pasted old _ at e refl p) (whole_pasted other _ words f refl q) ∙ zipped_back _
+
+pub whole_frame : (l : ℕ) (m : ℕ → ℕ) (s key kind number w version a b : ℕ) (old at other words : List ℕ) → a ≡ m (16 * s + 7) → b ≡ m (16 * s + 15)
+    → w ≡ kind_word kind 0 number → length old ≡ 16 → length other ≡ 16 → at ≡ pasted old 0 (record_numbers s) 16
+    → words ≡ pasted other 0 (record_words l a b key w 0 [] version) 16 → zipped at words ≡ record_stores l m s key kind number [] version
+whole_frame l m s key kind number w version a b old at other words ea eb ew e f p q =
+    zipped_record l m s key kind number [] version a b ea eb at words (whole_pasted old _ at e (numbers-length s) p)
+    (no_value l a b key version kind number w words ew (whole_pasted other _ words f (words_length l a b key w 0 [] version) q))

@@ -149,6 +149,16 @@ module _ (l a b key version : ℕ) where
       kind_alone : kind_word w 0 0 ≡ w
       kind_alone = omega arith
 
+  -- a record without a value, by its kind word
+  pub no_value : (kind number w : ℕ) (words : List ℕ) → w ≡ kind_word kind 0 number → words ≡ record_words l a b key w 0 [] version
+      → words ≡ record_words l a b key kind number [] version
+  no_value kind number w words e f =
+      f ∙ words_by_place w 0 [] ∙ ap (λ (x : ℕ). tabulate (λ p. word_at x (placed_word l [] (limit l / 8) p) p) 0 16) word_same
+      ∙ sym (words_by_place kind number [])
+    where
+      word_same : kind_word w 0 0 ≡ kind_word kind 0 number
+      word_same = omega arith
+
   some_words : Layout l → (w : ℕ) (value : List ℕ) (n : ℕ) → l + n ≤ 11
       → with_value l value 0 n (tabulate (word_at w 0) 0 16) ≡ tabulate (λ p. word_at w (placed_word l value n p) p) 0 16
   unfolding with_value placed_word

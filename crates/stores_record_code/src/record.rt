@@ -58,7 +58,14 @@ fn put_line(words: &mut [u64], from: usize, mark: u64, one: u64, two: u64, three
     requires { from + 8 ≤ length words.old }
     ensures { words.new ≡ pasted words.old from (mark ∷ one ∷ two ∷ three ∷ 0 ∷ 0 ∷ 0 ∷ stamp ∷ []) 8 }
 {
-    words[from..from + 8].copy_from_slice(&[mark, one, two, three, 0, 0, 0, stamp]);
+    words[from] = mark;
+    words[from + 1] = one;
+    words[from + 2] = two;
+    words[from + 3] = three;
+    words[from + 4] = 0;
+    words[from + 5] = 0;
+    words[from + 6] = 0;
+    words[from + 7] = stamp;
 }
 
 // The values of the stores of a record without a value whose kind word is w, over lines with stamps a and b, from
@@ -175,5 +182,10 @@ pub fn remove_stores(
     ensures result { zipped at.new words.new
         ≡ record_stores l (word image.now) s (key_with low high) 2 number [] version }
 {
-    record_stores(image, l, s, low, high, 2, number, &[], version, at, words);
+    let slot = s as usize;
+    let a = read_word(image, 16 * slot + 7);
+    let b = read_word(image, 16 * slot + 15);
+    fill_numbers(s, at, 0);
+    let w = kind_word(2, 0, number);
+    fill_frame(l, a, b, low, high, w, version, words, 0);
 }

@@ -8,6 +8,27 @@ ghost use Rattle.stores.specs.inner.Written.{with_value};
 use layout_code::value::value_place;
 use words_code::{padded_word, read_word};
 
+// Step i for a whole word: word i of the value goes to its place among the sixteen from position from on. The number of
+// the next step.
+fn fill_word(l: usize, value: &[u8], words: &mut [u64], from: usize, i: usize) -> usize
+    requires { Layout l × (length value.now ≤ limit l) × (8 * i + 8 ≤ length value.now) × (from + 16 ≤ length words.old) }
+    ensures { (result ≡ i + 1) × (words.new ≡ set words.old (from + value_place l i) (word value.now i)) }
+{
+    let place = value_place(l, i);
+    words[from + place] = read_word(value, i);
+    i + 1
+}
+
+// Step i for the bytes that are left.
+fn fill_rest(l: usize, value: &[u8], words: &mut [u64], from: usize, i: usize) -> usize
+    requires { Layout l × (length value.now ≤ limit l) × (8 * i < length value.now) × (from + 16 ≤ length words.old) }
+    ensures { (result ≡ i + 1) × (words.new ≡ set words.old (from + value_place l i) (word value.now i)) }
+{
+    let place = value_place(l, i);
+    words[from + place] = padded_word(value, i);
+    i + 1
+}
+
 // The words of the value go to their places among the sixteen from position from on: first the whole ones, so that a
 // step tests nothing but their number. The count of steps.
 pub fn fill_value(l: usize, value: &[u8], words: &mut [u64], from: usize) -> usize
@@ -16,12 +37,12 @@ pub fn fill_value(l: usize, value: &[u8], words: &mut [u64], from: usize) -> usi
         (words.new ≡ with_value l value.now from (words_moved (length value.now)) words.old) }
 {
     let whole = value.len() / 8;
-    for i in 0..whole {
-        words[from + value_place(l, i)] = read_word(value, i);
+    let mut i = 0;
+    for _ in 0..whole {
+        i = fill_word(l, value, words, from, i);
     }
-    if 8 * whole < value.len() {
-        words[from + value_place(l, whole)] = padded_word(value, whole);
-        return whole + 1;
+    if 8 * i < value.len() {
+        return fill_rest(l, value, words, from, i);
     }
-    whole
+    i
 }

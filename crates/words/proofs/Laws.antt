@@ -1,20 +1,14 @@
 -- Words and bytes: a word after a store (the same, another, length, range), and the bytes of a word. Assumes nothing.
-use mathlib.Core.Path.{◌≡◌, refl, ap, sym, ◌∙◌}
-use mathlib.Core.List.{List, [], ◌∷◌, ◌++◌}
+use mathlib.Core.Path.{◌≡◌, refl, ap, ap₂, sym, ◌∙◌}
+use mathlib.Core.List.{List}
 use mathlib.Core.Logic.{◌≢◌, by_cases}
 use Prim.Native.Nat.{ℕ, zero, suc, ◌+◌, ◌-◌, ◌*◌, ◌/◌, ◌%◌, ◌^◌, ◌≤◌, ◌<◌, min}
-use native.Mathlib.Nat.{add-zero, div-add-mod, pow-suc, pow-succ', div-one, div-lt_iff_lt-mul, div-div-eq-div-mul, mod-lt, zero-lt-suc}
+use native.Mathlib.Nat.{div-add-mod, pow-suc, pow-succ', div-one, div-lt_iff_lt-mul, div-div-eq-div-mul, mod-lt, zero-lt-suc}
 use native.Mathlib.Decide.{dec_lt, ℕ_discrete}
 use native.Mathlib.Omega.{arith}
-use borrow.Author.Rules.{rules}
 use lib.ListN.{length, take, drop, get_or, set, length-set, get_or-eq_default}
-use lib.Seq.{paste, take-suc-set, get_or-set_same, get_or-set_other, set_out, get_or-take, get_or-drop}
-use borrow.Rule.Slice.PartMut.{put_mid}
-use Rattle.std.specs.Int.{w64, to_le_bytes, from_le_bytes}
-use Rattle.std.proofs.Common.{take-append-drop, append_assoc, append-nil}
-use Rattle.std.proofs.lemmas.List.{drop-set-lt, length-take-le, take-take}
-use Rattle.std.proofs.lemmas.Slice.{put_mid-paste}
-use Rattle.words.specs.Word.{AreBytes, joined, word, set_bytes, set_word}
+use lib.Seq.{get_or-set_same, get_or-set_other, set_out, get_or-take, get_or-drop}
+use Rattle.words.specs.Word.{AreBytes, word, set_bytes, set_word}
 
 -- the number of the n bytes from a on
 abbrev from : ℕ → List ℕ → ℕ → ℕ
@@ -32,6 +26,22 @@ bytes_other s a zero v k h = refl
 bytes_other s a (suc n) v k h =
     bytes_other (set s a (v % 256)) (suc a) n (v / 256) k (λ p q. h (omega arith) (omega arith))
     ∙ get_or-set_other s a k (v % 256) 0 (λ e. h (omega arith) (omega arith))
+
+-- one byte, and then the others
+pub byte_next : (s : List ℕ) (at k n v : ℕ) → k < n → set_bytes s (at + k) (n - k) v
+    ≡ set_bytes (set s (at + k) (v % 256)) (at + (k + 1)) (n - (k + 1)) (v / 256)
+unfolding set_bytes
+byte_next s at k n v h =
+    let more : n - k ≡ suc (n - (k + 1)) = omega arith in
+    let along : suc (at + k) ≡ at + (k + 1) = omega arith in
+    ap (λ (x : ℕ). set_bytes s (at + k) x v) more ∙ ap (λ (x : ℕ). set_bytes (set s (at + k) (v % 256)) x (n - (k + 1)) (v / 256)) along
+
+-- and no more
+pub bytes_done : (s : List ℕ) (at k n v : ℕ) → n ≤ k → set_bytes s (at + k) (n - k) v ≡ s
+unfolding set_bytes
+bytes_done s at k n v h =
+    let none : n - k ≡ 0 = omega arith in
+    ap (λ (x : ℕ). set_bytes s (at + k) x v) none
 
 from_same : (n : ℕ) (s t : List ℕ) (a : ℕ) → ((k : ℕ) → a ≤ k → k < a + n → get_or s k 0 ≡ get_or t k 0) → from n s a ≡ from n t a
 from_same zero s t a h = refl
@@ -67,67 +77,15 @@ word-from s i =
     let e = sucs (8 * i) in
     rw (e.0, e.1, e.2, e.3, e.4, e.5, e.6) (omega arith)
 
--- the low n bytes of v, the lowest first
-low_bytes : (n v : ℕ) → List ℕ
-low_bytes zero v = []
-low_bytes (suc n) v = v % 256 ∷ low_bytes n (v / 256)
-
-low_bytes-eight : (v : ℕ) → to_le_bytes w64 v ≡ low_bytes 8 v
-unfolding low_bytes
-low_bytes-eight v = simp div-div-eq-div-mul
-
--- bytes stored one by one are pasted
-bytes_pasted : (n m : ℕ) (s : List ℕ) (k v : ℕ) → n ≤ m → k + n ≤ length s → set_bytes s k n v ≡ paste s k (low_bytes m v) n
-unfolding set_bytes low_bytes
-bytes_pasted zero m s k v h room =
-    sym (take-append-drop k s) ∙ rw add-zero (ap (λ (x : List ℕ). x ++ drop k s) (sym (append-nil (take k s))))
-bytes_pasted (suc n) zero s k v h room = absurd (omega arith)
-bytes_pasted (suc n) (suc m) s k v h room =
-    let t : List ℕ = set s k (v % 256) in
-    let inside : k < length s = omega arith in
-    let same : length t ≡ length s = length-set s k (v % 256) in
-    let rest : set_bytes t (suc k) n (v / 256) ≡ paste t (suc k) (low_bytes m (v / 256)) n =
-    bytes_pasted n m t (suc k) (v / 256) (omega arith) (omega arith)
-    in
-    let front : take (suc k) t ≡ take k s ++ (v % 256) ∷ [] = take-suc-set s k (v % 256) inside in
-    let back : drop (suc k + n) t ≡ drop (suc k + n) s = drop-set-lt (suc k + n) s k (v % 256) (omega arith) in
-    let along : suc k + n ≡ k + suc n = omega arith in
-    rest ∙ rw (front, back, along) (simp append_assoc)
-
--- what a part of s holds after the first n bytes of v are copied into it
-pub bytes_copied : (s : List ℕ) (k n v d : ℕ) (ys : List ℕ) → n ≤ 8 → k + n ≤ length s → d ≡ n → ys ≡ take n (to_le_bytes w64 v) →
-    put_mid k d s ys ≡ set_bytes s k n v
-unfolding low_bytes
-bytes_copied s k n v d ys few room e copied =
-    let zs : List ℕ = take n (low_bytes 8 v) in
-    let count : n ≡ length zs = sym (length-take-le n (low_bytes 8 v) few) in
-    put_mid-paste k d s ys zs n (copied ∙ ap (take n) (low_bytes-eight v)) (sym e) count
-    ∙ ap (λ (x : List ℕ). (take k s ++ x) ++ drop (k + n) s) (take-take n n (low_bytes 8 v) (omega arith))
-    ∙ sym (bytes_pasted n 8 s k v few room)
-
--- a word whose bytes are those of bs
-pub word_of_bytes : (bs s : List ℕ) (i : ℕ) → ((j : ℕ) → j < 8 → get_or bs j 0 ≡ get_or s (8 * i + j) 0) → from_le_bytes w64 bs ≡ word s i
-unfolding word
-word_of_bytes bs s i h =
-    let bytes : from_le_bytes w64 bs ≡ joined (get_or bs 0 0) (get_or bs 1 0) (get_or bs 2 0) (get_or bs 3 0) (get_or bs 4 0) (get_or bs 5 0)
-    (get_or bs 6 0) (get_or bs 7 0) = search rules in
-    let first : get_or bs 0 0 ≡ get_or s (8 * i) 0 = h 0 (omega arith) ∙ ap (λ (x : ℕ). get_or s x 0) (omega arith) in
-    bytes ∙ omega (
-      arith,
-      first,
-      h 1 (omega arith),
-      h 2 (omega arith),
-      h 3 (omega arith),
-      h 4 (omega arith),
-      h 5 (omega arith),
-      h 6 (omega arith),
-      h 7 (omega arith),
-    )
-
--- and of those of its part of s
-pub word_of_part : (bs s : List ℕ) (i n : ℕ) → n ≡ 8 → bs ≡ take n (drop (8 * i) s) → from_le_bytes w64 bs ≡ word s i
-word_of_part bs s i n e part =
-    word_of_bytes bs s i (λ j h. ap (λ (x : List ℕ). get_or x j 0) part ∙ get_or-take n (drop (8 * i) s) j 0 (omega arith) ∙ get_or-drop (8 * i) s j 0)
+-- the eight bytes of a word, one by one
+pub bytes_written : (s : List ℕ) (i v : ℕ) →
+    set (set (set (set (set (set (set (set s (8 * i) (v % 256)) (8 * i + 1) (v / 256 % 256)) (8 * i + 2) (v / 65536 % 256))
+    (8 * i + 3) (v / 16777216 % 256)) (8 * i + 4) (v / 4294967296 % 256)) (8 * i + 5) (v / 1099511627776 % 256))
+    (8 * i + 6) (v / 281474976710656 % 256)) (8 * i + 7) (v / 72057594037927936 % 256) ≡ set_word s i v
+unfolding set_word set_bytes
+bytes_written s i v =
+    let e = sucs (8 * i) in
+    simp (div-div-eq-div-mul, e.0, e.1, e.2, e.3, e.4, e.5, e.6)
 
 -- word i of n bytes: a whole word, or the bytes that are left
 pub bytes_whole : (s : List ℕ) (i n v : ℕ) → i < n / 8 → set_word s i v ≡ set_bytes s (8 * i) (min 8 (n - 8 * i)) v
@@ -136,10 +94,11 @@ bytes_whole s i n v h =
     let all : 8 ≡ min 8 (n - 8 * i) = omega arith in
     ap (λ (x : ℕ). set_bytes s (8 * i) x v) all
 
-pub bytes_left : (s : List ℕ) (i n v : ℕ) → n / 8 ≤ i → set_bytes s (8 * i) (n - 8 * i) v ≡ set_bytes s (8 * i) (min 8 (n - 8 * i)) v
-bytes_left s i n v h =
-    let left : n - 8 * i ≡ min 8 (n - 8 * i) = omega arith in
-    ap (λ (x : ℕ). set_bytes s (8 * i) x v) left
+pub bytes_left : (s : List ℕ) (i n v : ℕ) → 8 * i ≤ n → n / 8 ≤ i → set_bytes s (n - n % 8) (n % 8) v ≡ set_bytes s (8 * i) (min 8 (n - 8 * i)) v
+bytes_left s i n v room h =
+    let start : n - n % 8 ≡ 8 * i = omega arith in
+    let left : n % 8 ≡ min 8 (n - 8 * i) = omega arith in
+    ap₂ (λ (x y : ℕ). set_bytes s x y v) start left
 
 -- a store keeps the length
 pub set_word-length : (s : List ℕ) (i v : ℕ) → length (set_word s i v) ≡ length s

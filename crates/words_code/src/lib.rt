@@ -31,9 +31,17 @@ pub fn read_word(image: &[u8], i: usize) -> u64
     requires { 8 * i + 8 ≤ length image.now }
     ensures result { result ≡ word image.now i }
 {
-    let mut bytes = [0; 8];
-    bytes.copy_from_slice(&image[8 * i..8 * i + 8]);
-    u64::from_le_bytes(bytes)
+    let at = 8 * i;
+    join(
+        image[at],
+        image[at + 1],
+        image[at + 2],
+        image[at + 3],
+        image[at + 4],
+        image[at + 5],
+        image[at + 6],
+        image[at + 7],
+    )
 }
 
 // Word i of the image becomes v.
@@ -41,7 +49,28 @@ pub fn write_word(image: &mut [u8], i: usize, v: u64)
     requires { 8 * i + 8 ≤ length image.old }
     ensures result { image.new ≡ set_word image.old i v }
 {
-    image[8 * i..8 * i + 8].copy_from_slice(&v.to_le_bytes());
+    let at = 8 * i;
+    let bytes = v.to_le_bytes();
+    image[at] = bytes[0];
+    image[at + 1] = bytes[1];
+    image[at + 2] = bytes[2];
+    image[at + 3] = bytes[3];
+    image[at + 4] = bytes[4];
+    image[at + 5] = bytes[5];
+    image[at + 6] = bytes[6];
+    image[at + 7] = bytes[7];
+}
+
+// The first n bytes of v are stored from position at on.
+fn write_bytes(image: &mut [u8], at: usize, n: usize, v: u64)
+    requires { at + n ≤ length image.old }
+    ensures { image.new ≡ set_bytes image.old at n v }
+{
+    let mut rest = v;
+    for k in 0..n {
+        image[at + k] = (rest % 256) as u8;
+        rest /= 256;
+    }
 }
 
 // Word i of the first n bytes becomes v: a whole word, or the bytes of it that are among them.
@@ -53,7 +82,8 @@ pub fn write_part(image: &mut [u8], i: usize, n: usize, v: u64)
         write_word(image, i, v);
         return;
     }
-    image[8 * i..n].copy_from_slice(&v.to_le_bytes()[..n - 8 * i]);
+    let left = n % 8;
+    write_bytes(image, n - left, left, v);
 }
 
 // Word i of the value, with zeros past its end: a whole word, no byte of one, or the bytes that there are.

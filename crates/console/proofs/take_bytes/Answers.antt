@@ -1,5 +1,4 @@
 -- `console::take_bytes`: one byte more, and none left.
-use Rattle.std.proofs.lemmas.Result.{on_ok_weaker}
 use Rattle.session.proofs.Readings.{read_more, read_done}
 use Rattle.console.proofs.take_bytes.Goals as goal
 
@@ -7,8 +6,6 @@ pub loop-byte-preserved : goal.loop-byte-preserved
 loop-byte-preserved c =
     read_more _ _ _ _ _ _ _ _ _ _ _ _ _ _ _ c.loop-byte.invariant c.loop-byte-test.true c.take_byte.ensures.stream c.after_byte.ensures.progress
 
-pub returns : goal.returns
-returns c = record {
-  stream =
-      on_ok_weaker _ (λ _. read_done _ _ _ _ _ _ _ _ _ _ c.loop-byte.invariant c.loop-byte-test.false c.flush.ensures.progress) c.flush.ensures.inside;
-}
+pub returns-clause-stream : goal.returns-clause-stream
+returns-clause-stream c =
+    read_done _ _ _ _ _ _ _ _ _ _ c.loop-byte.invariant c.loop-byte-test.false c.flush.ensures.progress

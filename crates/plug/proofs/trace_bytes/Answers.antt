@@ -1,6 +1,5 @@
 -- `plug::trace_bytes`: one byte more, and none left.
 use Rattle.std.proofs.Common.{◌≡◌, ℕ, List, ◌∙◌, ap₂}
-use Rattle.std.proofs.lemmas.Result.{on_ok_weaker}
 use Rattle.session.specs.Stream.{StreamResult, byte_result}
 use Rattle.session.specs.declared.Progress.{Progress}
 use Rattle.session.proofs.Readings.{read_more, read_done}
@@ -18,8 +17,6 @@ loop-byte-preserved g c =
     read_more _ _ _ _ _ _ _ _ _ _ _ _ _ _ _ c.loop-byte.invariant c.loop-byte-test.true
     (by_lengths _ _ _ _ _ _ _ _ _ _ _ c.loop-byte.auto.copy c.loop-byte.auto.later c.trace_byte.ensures.stream) c.after_byte.ensures.progress
 
-pub returns : goal.returns
-returns g c = record {
-  stream =
-      on_ok_weaker _ (λ _. read_done _ _ _ _ _ _ _ _ _ _ c.loop-byte.invariant c.loop-byte-test.false c.flush.ensures.progress) c.flush.ensures.inside;
-}
+pub returns-clause-stream : goal.returns-clause-stream
+returns-clause-stream g c =
+    read_done _ _ _ _ _ _ _ _ _ _ c.loop-byte.invariant c.loop-byte-test.false c.flush.ensures.progress

@@ -1,9 +1,14 @@
 -- Answers of `words_code::read_word`.
-use native.Mathlib.Omega.{arith}
-use mathlib.Core.Path.{◌∙◌}
-use Rattle.words.proofs.Laws.{word_of_part}
+use borrow.Author.Rules.{rules}
+use Rattle.words.specs.Word.{word}
 use Rattle.words_code.proofs.read_word.Goals as goal
 
+pub join-requires : goal.join-requires
+unfolding word
+join-requires c =
+    search rules
+
 pub returns : goal.returns
+unfolding word
 returns c =
-    record { result = c.from_le_bytes.ensures ∙ word_of_part c.copy_from_slice.new.self _ c.args.i _ (omega arith) c.copy_from_slice.ensures.after }
+    record { result = (c.join.ensures.result) }

@@ -1,15 +1,42 @@
 -- Answers of `words_code::write_word`.
 use native.Mathlib.Omega.{arith}
-use Prim.Native.Nat.{◌*◌}
-use mathlib.Core.Path.{◌∙◌}
-use Rattle.words.specs.Word.{set_word}
-use Rattle.words.proofs.Laws.{bytes_copied}
+use lib.ListN.{length-set}
+use borrow.Author.Rules.{rules}
+use Rattle.words.proofs.Laws.{bytes_written}
 use Rattle.words_code.proofs.write_word.Goals as goal
 
+pub bounds-image-at-2 : goal.bounds-image-at-2
+bounds-image-at-2 c =
+    simp length-set (omega arith)
+
+pub bounds-image-at-3 : goal.bounds-image-at-3
+bounds-image-at-3 c =
+    simp length-set (omega arith)
+
+pub bounds-image-at-4 : goal.bounds-image-at-4
+bounds-image-at-4 c =
+    simp length-set (omega arith)
+
+pub bounds-image-at-5 : goal.bounds-image-at-5
+bounds-image-at-5 c =
+    simp length-set (omega arith)
+
+pub bounds-image-at-6 : goal.bounds-image-at-6
+bounds-image-at-6 c =
+    simp length-set (omega arith)
+
+pub bounds-image-at-7 : goal.bounds-image-at-7
+bounds-image-at-7 c =
+    simp length-set (omega arith)
+
+pub bounds-image-at-8 : goal.bounds-image-at-8
+bounds-image-at-8 c =
+    simp length-set (omega arith)
+
+pub shape_of-image : goal.shape_of-image
+shape_of-image c =
+    simp length-set
+
 pub returns : goal.returns
-unfolding set_word
 returns c =
-    record {
-      result = bytes_copied c.args.image.now (8 * c.args.i) 8 c.args.v _ _ (omega arith) c.requires (omega arith)
-          (c.copy_from_slice.ensures.after ∙ c.to_le_bytes.ensures);
-    }
+    record { result = rw c.to_le_bytes-bytes.ensures (bytes_written c.args.image.now c.args.i c.args.v) }

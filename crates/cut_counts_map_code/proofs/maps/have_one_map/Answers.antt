@@ -9,10 +9,10 @@ returns-in-Map-Map c =
           c.same_map.ensures;
     }
 
-pub returns-in_default : goal.returns-in_default
-returns-in_default c =
-    record { result = second_refused _ _ _ _ _ _ _ _ _ c.requires.indexed.1 c.requires.indexed.2 _ c.in_default.is-1 }
+pub returns-in-Map-Nothing : goal.returns-in-Map-Nothing
+returns-in-Map-Nothing c =
+    record { result = second_refused _ _ _ _ _ _ _ _ _ c.requires.indexed.1 c.requires.indexed.2 _ c.in-Map-Nothing.is-1 }
 
-pub returns-in_default-2 : goal.returns-in_default-2
-returns-in_default-2 c =
-    record { result = first_refused _ _ _ _ _ _ _ _ _ c.requires.indexed.1 c.requires.indexed.2 _ c.in_default.is-0 }
+pub returns-in-Nothing-default : goal.returns-in-Nothing-default
+returns-in-Nothing-default c =
+    record { result = first_refused _ _ _ _ _ _ _ _ _ c.requires.indexed.1 c.requires.indexed.2 _ c.in-Nothing-default.is-0 }

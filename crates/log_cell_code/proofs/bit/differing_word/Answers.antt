@@ -17,8 +17,8 @@ loop-place-preserved c =
     search_passed _ _ _ _ _ _ _ c.loop-place.invariant (omega arith) refl
     c.read_word.ensures.result c.padded_word.ensures.result c.if-read_word-padded_word.false
 
-pub returns : goal.returns
-returns c =
+pub returns-after-loop-place : goal.returns-after-loop-place
+returns-after-loop-place c =
     record { result = (search_equal _ _ _ _ c.loop-place.invariant (omega (arith, c.loop-place-test.false))) }
 
 pub returns-then-read_word-padded_word : goal.returns-then-read_word-padded_word

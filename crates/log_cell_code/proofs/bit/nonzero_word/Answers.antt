@@ -12,8 +12,8 @@ pub loop-place-preserved : goal.loop-place-preserved
 loop-place-preserved c =
     search_passed _ _ _ _ _ _ _ c.loop-place.invariant (omega arith) refl c.read_word.ensures.result refl c.if-read_word-ne0.false
 
-pub returns : goal.returns
-returns c =
+pub returns-after-loop-place : goal.returns-after-loop-place
+returns-after-loop-place c =
     search_equal _ _ _ _ c.loop-place.invariant (omega (arith, c.loop-place-test.false))
 
 pub returns-then-read_word-ne0 : goal.returns-then-read_word-ne0

@@ -8,7 +8,7 @@ use Rattle.std.proofs.lemmas.Iterator.{YieldsList-from_range}
 use Rattle.std.proofs.lemmas.Iterator.Search.{any_from_yields_List}
 use Rattle.recovery.specs.inner.Scan.{key_at}
 use Rattle.recovery.specs.inner.Decide.{key_twice}
-use Rattle.recovery.proofs.Compares.{any_listed}
+use Rattle.prelude.proofs.Any.{any_listed}
 use Rattle.recovery_judge_code.proofs.comparing.any_key_twice.Goals as goal
 
 pub returns : goal.returns

@@ -9,7 +9,7 @@ use Rattle.std.proofs.lemmas.Iterator.Search.{any_from_yields_List}
 use Rattle.words.specs.Word.{word}
 use Rattle.layout.specs.Content.{size_field_in}
 use Rattle.recovery.specs.inner.Decide.{run_fault}
-use Rattle.recovery.proofs.Compares.{any_listed}
+use Rattle.prelude.proofs.Any.{any_listed}
 use Rattle.recovery_judge_code.proofs.comparing.any_run_fault.Goals as goal
 
 pub returns : goal.returns

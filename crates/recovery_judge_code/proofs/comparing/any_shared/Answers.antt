@@ -7,7 +7,7 @@ use borrow.Author.Tests.{tests}
 use Rattle.std.proofs.lemmas.Iterator.{YieldsList-from_range}
 use Rattle.std.proofs.lemmas.Iterator.Search.{any_from_yields_List}
 use Rattle.recovery.specs.inner.Decide.{equal_neighbours}
-use Rattle.recovery.proofs.Compares.{any_listed}
+use Rattle.prelude.proofs.Any.{any_listed}
 use Rattle.recovery_judge_code.proofs.comparing.any_shared.Goals as goal
 
 pub returns : goal.returns
