@@ -4,7 +4,8 @@ use orderset::{Recovered, Refusal, format, play, play_list, recover, return_code
 use std::io::Stdout;
 use words_code::read_word;
 
-// A play's answer, and how many bytes of the two images differ.
+// A play's answer, and how many bytes of the two images differ: counted in a loop, since a chain of filter and count over
+// both images takes twice the instructions.
 fn show_played(stdout: Stdout, answer: Result<(), Refusal>, before: &[u8; 640], image: &[u8; 640]) {
     let answer = return_code(answer);
     let mut changed: usize = 0;

@@ -10,6 +10,17 @@ use cut_counts_map_code::maps::{have_one_map, index_image};
 use stores::Stores;
 use stores_code::play::play;
 
+// The bytes of one slice are copied to another of the same length. An index for each byte, so that the must-fail edit
+// narrows the range and changes nothing else.
+fn copy_bytes(from: &[u8], to: &mut [u8])
+    requires { length to.old ≡ length from.now }
+    ensures { to.new ≡ from.now }
+{
+    for k in 0..to.len() {
+        to[k] = from[k];
+    }
+}
+
 // The image after the first a stores of the first half and the first b of the second, with its index.
 pub fn cut_copy(
     image: &[u8],
@@ -25,7 +36,7 @@ pub fn cut_copy(
     ensures result { (copy.new ≡ cut_image image.now stores.at stores.value a b)
         × IndexedBy l copy.new heads.new next.new result }
 {
-    copy.copy_from_slice(image);
+    copy_bytes(image, copy);
     let _ = play(copy, stores, a, b);
     index_image(copy, l, heads, next)
 }

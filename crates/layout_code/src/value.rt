@@ -25,8 +25,8 @@ pub fn value_word(image: &[u8], l: usize, s: usize, i: usize) -> u64
     read_word(image, 16 * s + value_place(l, i))
 }
 
-// Step i of copying the first n bytes of the value in slot s: word i, or of the last one the bytes that are left. The
-// number of the next step.
+// Step i of copying the first n bytes of the value in slot s: word i, or of the last one the bytes that are left. It
+// answers the number of the next step, so that the moving itself counts its steps (document 02, A.3).
 fn copy_step(image: &[u8], l: usize, s: usize, out: &mut [u8], n: usize, i: usize) -> usize
     requires { SlotInside image.now l s × (8 * i < n) × (n ≤ limit l) × (n ≤ length out.old) }
     ensures { (result ≡ i + 1) ×

@@ -12,7 +12,8 @@ ghost use Rattle.message_log.specs.inner.Needs.{LineInside, Pairable};
 use words_code::{padded_word, read_word};
 
 // The place of the word in which old and new differ, or 8 where the lines are equal: the words are compared from word 7
-// down, and the search ends at the first that differs. Past the message's end the new line is zeros.
+// down, and the search ends at the first that differs. Past the message's end the new line is zeros. The loop yields the
+// place by break, the form of document 01.
 pub fn differing_word(area: &[u8], n: usize, message: &[u8], i: usize) -> usize
     requires { LineInside (length area.now) n i }
     ensures result { result ≡ differing_place 8 (line (word area.now) n) (message_line message.now i) }

@@ -53,7 +53,8 @@ fn fill_numbers(s: u32, at: &mut [u32], from: usize)
     }
 }
 
-// The eight values of a line, from position from on: words 4 to 6 are zero.
+// The eight values of a line, from position from on: words 4 to 6 are zero. An index for each: for std's copy_from_slice
+// the compiler makes a test whether the two places overlap.
 fn put_line(words: &mut [u64], from: usize, mark: u64, one: u64, two: u64, three: u64, stamp: u64)
     requires { from + 8 ≤ length words.old }
     ensures { words.new ≡ pasted words.old from (mark ∷ one ∷ two ∷ three ∷ 0 ∷ 0 ∷ 0 ∷ stamp ∷ []) 8 }

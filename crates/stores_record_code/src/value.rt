@@ -8,8 +8,8 @@ ghost use Rattle.stores.specs.inner.Written.{with_value};
 use layout_code::value::value_place;
 use words_code::{padded_word, read_word};
 
-// Step i for a whole word: word i of the value goes to its place among the sixteen from position from on. The number of
-// the next step.
+// Step i for a whole word: word i of the value goes to its place among the sixteen from position from on. It answers the
+// number of the next step, so that the moving itself counts its steps (document 02, A.3).
 fn fill_word(l: usize, value: &[u8], words: &mut [u64], from: usize, i: usize) -> usize
     requires { Layout l × (length value.now ≤ limit l) × (8 * i + 8 ≤ length value.now) × (from + 16 ≤ length words.old) }
     ensures { (result ≡ i + 1) × (words.new ≡ set words.old (from + value_place l i) (word value.now i)) }
@@ -19,7 +19,7 @@ fn fill_word(l: usize, value: &[u8], words: &mut [u64], from: usize, i: usize) -
     i + 1
 }
 
-// Step i for the bytes that are left.
+// Step i for the bytes that are left; the next step is counted as by `fill_word`.
 fn fill_rest(l: usize, value: &[u8], words: &mut [u64], from: usize, i: usize) -> usize
     requires { Layout l × (length value.now ≤ limit l) × (8 * i < length value.now) × (from + 16 ≤ length words.old) }
     ensures { (result ≡ i + 1) × (words.new ≡ set words.old (from + value_place l i) (word value.now i)) }

@@ -26,7 +26,8 @@ pub fn join(b0: u8, b1: u8, b2: u8, b3: u8, b4: u8, b5: u8, b6: u8, b7: u8) -> u
     u64::from_le_bytes([b0, b1, b2, b3, b4, b5, b6, b7])
 }
 
-// Word i of the image.
+// Word i of the image. An index for each byte: for std's copy_from_slice of eight bytes the compiler makes a test whether
+// the two places overlap, at each word.
 pub fn read_word(image: &[u8], i: usize) -> u64
     requires { 8 * i + 8 ≤ length image.now }
     ensures result { result ≡ word image.now i }
@@ -44,7 +45,7 @@ pub fn read_word(image: &[u8], i: usize) -> u64
     )
 }
 
-// Word i of the image becomes v.
+// Word i of the image becomes v, byte by byte for the reason of `read_word`.
 pub fn write_word(image: &mut [u8], i: usize, v: u64)
     requires { 8 * i + 8 ≤ length image.old }
     ensures result { image.new ≡ set_word image.old i v }
@@ -61,7 +62,7 @@ pub fn write_word(image: &mut [u8], i: usize, v: u64)
     image[at + 7] = bytes[7];
 }
 
-// The first n bytes of v are stored from position at on.
+// The first n bytes of v are stored from position at on, byte by byte for the reason of `read_word`.
 fn write_bytes(image: &mut [u8], at: usize, n: usize, v: u64)
     requires { at + n ≤ length image.old }
     ensures { image.new ≡ set_bytes image.old at n v }

@@ -8,10 +8,10 @@ pub index_image-requires : goal.index_image-requires
 index_image-requires c = (
   c.requires.0,
   fits_same _ _ _ _ _ _
-      (ap length (cut_made _ _ _ _ _ _ _ _ c.copy_from_slice.ensures.after c.play.ensures.result) ∙ cut_length _ _ _ _ _) refl refl
+      (ap length (cut_made _ _ _ _ _ _ _ _ c.copy_bytes.ensures c.play.ensures.result) ∙ cut_length _ _ _ _ _) refl refl
       c.requires.2,
 )
 
 pub returns : goal.returns
 returns c =
-    record { result = ((cut_made _ _ _ _ _ _ _ _ c.copy_from_slice.ensures.after c.play.ensures.result, c.index_image.ensures.result)) }
+    record { result = ((cut_made _ _ _ _ _ _ _ _ c.copy_bytes.ensures c.play.ensures.result, c.index_image.ensures.result)) }
